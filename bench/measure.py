@@ -15,6 +15,9 @@ MEBIBYTE = 1 << 20
 # in front of ten times as many records takes so many times as long at most.
 BACKLOG_ITEMS, BEGUN_POLLS, MOST_POLL_FACTOR = 20, 10_000, 1.3
 
+# What has a backlog sent: its kind of schedule, and what becomes of the records there.
+BACKLOGS = (("backlog", "sent"), ("settled", "settled"))
+
 # A schedule of messages takes so many times as long, and as much memory, as with an older program at most.
 MOST_OLDER_FACTOR = 2.5
 
@@ -68,17 +71,17 @@ def least(program, paths):
     return [min(turn[place][0] for turn in runs) for place in range(len(paths))], max(turn[-1][1] for turn in runs)
 
 
-def sends_backlog(program, folder):
+def sends_backlog(program, kind, how, folder):
     """Measures a source that sends what it wrote before. Answers whether ten times as much meets the bound."""
     times = {}
     for size in (SMALL, GREAT):
-        (times[size],), peak = least(program, [schedule("backlog", size, BACKLOG_ITEMS, folder)])
+        (times[size],), peak = least(program, [schedule(kind, size, BACKLOG_ITEMS, folder)])
         print(
-            f"{size:>7} records written before they are sent, {BACKLOG_ITEMS} in a batch: {size / times[size]:>9,.0f} records a second,"
+            f"{size:>7} records written before they are {how}, {BACKLOG_ITEMS} in a batch: {size / times[size]:>9,.0f} records a second,"
             f" {peak / MEBIBYTE:,.0f} MiB"
         )
     factor = times[GREAT] / times[SMALL]
-    print(f"        from {SMALL:,} to {GREAT:,} records, {BACKLOG_ITEMS} in a batch: {factor:.1f} times as long")
+    print(f"        from {SMALL:,} to {GREAT:,} records {how}, {BACKLOG_ITEMS} in a batch: {factor:.1f} times as long")
     return factor <= MOST_FACTOR
 
 
@@ -118,7 +121,8 @@ def main():
             for kind, what, counts, bounded in KINDS
             for sources in counts
         ]
-        good += [sends_backlog(program, folder), begins_backlog(program, folder)]
+        good += [sends_backlog(program, kind, how, folder) for kind, how in BACKLOGS]
+        good += [begins_backlog(program, folder)]
         good += [keeps_up(program, one, folder) for one in older]
     if not all(good):
         sys.exit("a bound isn't met")

@@ -11,6 +11,7 @@ Or one of a source that writes SIZE records before it sends any:
     bench/schedules.py written SIZE ITEMS > FILE      and sends none
     bench/schedules.py backlog SIZE ITEMS > FILE      and then all of them, ITEMS in a batch
     bench/schedules.py begun SIZE ITEMS > FILE        and then the first 1,000 batches, each of them ten times
+    bench/schedules.py settled SIZE ITEMS > FILE      and then all of them, in one line that settles
 """
 import itertools
 import sys
@@ -135,6 +136,12 @@ def begun(records, items):
     yield from (*("poll s0 base", "lost s0 base") * (AGAIN - 1), "poll s0 base", "back 0", "back 0") * FIRST
 
 
+def settled(records, items):
+    """All records are sent in one line, then the report."""
+    yield from written(records, items)
+    yield from ("settle", "show")
+
+
 KINDS = {
     "events": batches,
     "lines": exchanges,
@@ -143,6 +150,7 @@ KINDS = {
     "written": written,
     "backlog": backlog,
     "begun": begun,
+    "settled": settled,
 }
 
 if __name__ == "__main__":

@@ -1,5 +1,5 @@
 -- What the collector makes of messages, by what became of its calls.
-use Rattle.std.proofs.Common.{◌≡◌, ℕ, Bool, true, false, List, refl, ap, sym, ◌∙◌, subst}
+use Rattle.std.proofs.Common.{◌≡◌, ℕ, Bool, true, false, ◌&&◌, List, refl, ap, sym, ◌∙◌, subst}
 use Rattle.std.specs.Prelude.{Option, Some, None, Ok, Err, if◌then◌else◌}
 use Rattle.wef_batch.specs.WellFormed.{is_well_formed}
 use Rattle.wef_batch.specs.declared.items.Batch.{Batch}
@@ -27,7 +27,7 @@ use Rattle.wef_machine.specs.Answering.{answer_by, commit_word}
 use Rattle.wef_machine.specs.Arming.{armed_after, committed, fate, is_done, is_stopped}
 use Rattle.wef_machine.specs.Collecting.{collector_opened, collector_opening, reply_id}
 use Rattle.wef_machine.specs.Deliveries.{BatchEffect, batch_effect, batch_effect_by, heard_effect, heard_effect_by}
-use Rattle.wef_machine.specs.Leasing.{answered_word, ended_effect_by, leasing_word, response_effect}
+use Rattle.wef_machine.specs.Leasing.{answered_word, ended_effect_by, is_leased, leasing_word, response_effect}
 use Rattle.wef_machine.specs.Places.{after_call}
 use Rattle.wef_machine.specs.Printed.{fate_word, fault_answer}
 use Rattle.wef_machine.specs.States.{Collector}
@@ -41,7 +41,7 @@ use Rattle.wef_places.specs.declared.places.Called.{Called}
 use Rattle.wef_places.specs.declared.places.Called.TheVariants.{Done, Broken, Refused}
 use Rattle.wef_places.specs.declared.places.Used.{Used}
 use Rattle.wef_places.specs.declared.places.Used.TheVariants.{Closed, Answered}
-use Rattle.wef_deliveries.specs.Outcomes.{answered_call, call_by, call_left, drawn_for, fault_for, heard_word, leased_by, outcome_word, reply_to, response_where_runs, response_word, sent_by}
+use Rattle.wef_deliveries.specs.Outcomes.{answered_call, call_by, call_left, drawn_for, effect_leases, fault_for, heard_leases, heard_word, leased_by, leases_where_runs, outcome_word, reply_to, response_leases, response_where_runs, response_word, sent_by}
 
 -- ---- calls that name another fault
 
@@ -202,3 +202,24 @@ response_said c relates answer now used came = by (collector_opened c).memory us
     by None (Answered called) came = absurd came
     by (Some memory) (Closed went) came = absurd came
     by (Some memory) (Answered called) came = heard_so (collector_opened c) answer (response_effect memory relates answer now (collector_opened c).rows) called came
+
+-- whether a lease stands by it
+heard_stands : (c : Collector) (answer : Response) (effect : collector.Effect) (called : Called Leasing CollectorFault) → CalledAs c.armed effect (answered_of answer) called → heard_leases (Answered called) ≡ effect_leases c answer effect
+heard_stands c answer (Ok changes) (Done given) is = ap is_leased is.1 ∙ ap (λ (how : the_fate.Fate). is_done how && is_leased (answered_of answer)) (sym is.0)
+heard_stands c answer (Ok changes) (Broken how) is = λ i. sym (ap is_done (sym is.1) ∙ is.0) i && is_leased (answered_of answer)
+heard_stands c answer (Ok changes) (Refused fault) is = absurd is
+heard_stands c answer (Err fault) (Done given) is = absurd is
+heard_stands c answer (Err fault) (Broken how) is = absurd is
+heard_stands c answer (Err fault) (Refused refused) is = refl
+
+pub response_stands : (c : Collector) (relates : MessageId) (answer : Response) (now : ℕ) (used : Used (Called Leasing CollectorFault)) → HearsAs (collector_opening c) (collector_opened c) relates answer now used
+    → heard_leases used ≡ response_leases c relates answer now
+response_stands c relates answer now used came = by (collector_opened c).memory used came
+  where
+    by : (memory : Option Memory) (used : Used (Called Leasing CollectorFault))
+        → UsedAs (collector_opening c) memory (Unit {0}) (λ (memory : Memory). CalledAs (collector_opened c).armed (response_effect memory relates answer now (collector_opened c).rows) (answered_of answer)) used
+        → heard_leases used ≡ leases_where_runs c relates answer now memory
+    by None (Closed went) came = refl
+    by None (Answered called) came = absurd came
+    by (Some memory) (Closed went) came = absurd came
+    by (Some memory) (Answered called) came = heard_stands (collector_opened c) answer (response_effect memory relates answer now (collector_opened c).rows) called came

@@ -1,9 +1,10 @@
 -- What the ends make of messages, and what they answer.
-use Rattle.std.specs.Prelude.{Bool, true, false, ℕ, ◌+◌, List, length, Option, Some, None, Ok, Err, codes, if◌then◌else◌}
+use Rattle.std.specs.Prelude.{Bool, true, false, ◌&&◌, ℕ, ◌+◌, List, length, Option, Some, None, Ok, Err, codes, if◌then◌else◌}
 use Rattle.std.specs.FinMap as map
 use Rattle.wef_collector.specs.Calls.{Effect}
 use Rattle.wef_collector.specs.Offers.{offers}
 use Rattle.wef_collector.specs.declared.memories.Memory.{Memory}
+use Rattle.wef_collector.specs.Responses.{answered_of}
 use Rattle.wef_collector.specs.declared.responses.Answered.{Answered as Leasing}
 use Rattle.wef_collector.specs.declared.responses.Response.{Response}
 use Rattle.wef_collector_rows.specs.declared.faults.CollectorFault as the_fault
@@ -15,10 +16,10 @@ use Rattle.wef_ids.specs.declared.FaultName.{FaultName}
 use Rattle.wef_ids.specs.declared.FaultName.TheVariants.{InvalidMessage, DestinationUnreachable, InternalError}
 use Rattle.wef_ids.specs.declared.MessageId.{MessageId}
 use Rattle.wef_machine.specs.Answering.{answer_by, commit_word}
-use Rattle.wef_machine.specs.Arming.{fate}
+use Rattle.wef_machine.specs.Arming.{fate, is_done}
 use Rattle.wef_machine.specs.Collecting.{collector_opened, collector_opening, draws, reply_id}
 use Rattle.wef_machine.specs.Deliveries.{BatchEffect, beat_effect, delivery_effect}
-use Rattle.wef_machine.specs.Leasing.{answered_word, leasing_word, note_effect, request_done, request_said, responded, responded_word, response_effect, response_sent}
+use Rattle.wef_machine.specs.Leasing.{answered_word, is_leased, leasing_word, note_effect, request_done, request_said, responded, responded_word, response_effect, response_sent}
 use Rattle.wef_machine.specs.Places.{after_call}
 use Rattle.wef_machine.specs.Printed.{fate_word, fault_answer}
 use Rattle.wef_machine.specs.Sources.{slot_opened, slot_opening}
@@ -196,3 +197,20 @@ response_where_runs c relates answer now (Some memory) = leased_by (collector_op
 
 abbrev pub response_word : Collector → MessageId → Response → ℕ → List ℕ
 response_word c relates answer now = response_where_runs c relates answer now (collector_opened c).memory
+
+-- whether a lease stands by it
+abbrev pub heard_leases : Used (Called Leasing the_fault.CollectorFault) → Bool
+heard_leases (Answered (Done answer)) = is_leased answer
+heard_leases _ = false
+
+-- the same by what the answer does, and how its commit goes
+abbrev pub effect_leases : Collector → Response → Effect → Bool
+effect_leases c answer (Ok changes) = is_done (fate c.armed changes) && is_leased (answered_of answer)
+effect_leases c answer (Err fault) = false
+
+abbrev pub leases_where_runs : Collector → MessageId → Response → ℕ → Option Memory → Bool
+leases_where_runs c relates answer now None = false
+leases_where_runs c relates answer now (Some memory) = effect_leases (collector_opened c) answer (response_effect memory relates answer now (collector_opened c).rows)
+
+abbrev pub response_leases : Collector → MessageId → Response → ℕ → Bool
+response_leases c relates answer now = leases_where_runs c relates answer now (collector_opened c).memory

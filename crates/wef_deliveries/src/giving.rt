@@ -1,7 +1,7 @@
 //! What sources make of messages.
 
 ghost use Rattle.std.specs.FinMap as map;
-ghost use Rattle.std.specs.Prelude.{◌≡◌, codes, None, IfOk, OnOk};
+ghost use Rattle.std.specs.Prelude.{◌≡◌, codes, false, None, IfOk, OnOk};
 ghost use Rattle.wef_deliveries.specs.Answered as answered;
 ghost use Rattle.wef_deliveries.specs.Outcomes as outcomes;
 ghost use Rattle.wef_front_source.specs.HeardReplies.{offers_told, told};
@@ -10,7 +10,7 @@ ghost use Rattle.wef_machine.specs.Leasing as leasing;
 ghost use Rattle.wef_places.specs.Counted as counts;
 ghost use Rattle.wef_places.specs.Slots as slots;
 
-use crate::taken::{Taken, closed};
+use crate::taken::{Taken, Told, closed};
 use std::alloc::{AllocError, Global};
 use wef_base::{Bytes, Moment, SourceName, Text};
 use wef_collector::Response;
@@ -21,7 +21,7 @@ use wef_places::sources::Sources;
 use wef_places::{Answers, WorldFault};
 use wef_printing::printing::{adopted_word, fate_word, fault_answer};
 
-/// Gives a source the bytes of an answer, at a moment. Answers the word for what became of it.
+/// Gives a source the bytes of an answer, at a moment.
 pub fn give<A: Answers>(
     alloc: Global,
     sources: &mut Sources,
@@ -29,19 +29,41 @@ pub fn give<A: Answers>(
     source: &SourceName,
     body: &Bytes,
     now: Moment,
-) -> Result<Text, WorldFault>
+) -> Result<Told, WorldFault>
     requires { slots.IsFormedAt (map.get sources.old source.now) }
     ensures sources { OnOk result (sources.new ≡ slots.given_to sources.old source.now (slots.after_told (told body.now) (offers_told now body.now) now)) }
-    ensures word { IfOk result (λ word. word ≡ slots.word_at sources.old source.now (slots.told_word (told body.now) (offers_told now body.now) now)) }
+    ensures word { IfOk result (λ given. given.word ≡ slots.word_at sources.old source.now (slots.told_word (told body.now) (offers_told now body.now) now)) }
+    ensures moves { IfOk result (λ given. given.moves ≡ slots.moves_at sources.old source.now (slots.told_moves (told body.now) (offers_told now body.now) now)) }
     ensures calls { OnOk result (A.calls answers.new ≡ counts.counted (counts.once (counts.is_open_at (map.get sources.old source.now))) (A.calls answers.old)) }
 {
     let Some(slot) = sources.slot_mut(source) else {
-        return Ok(Text::from_str(alloc, "not-asked")?);
+        return Ok(unmoved(alloc, "not-asked")?);
     };
     match slot.hear(alloc, answers, body, now)? {
-        Used::Closed(fate) => Ok(Text::from_str(alloc, fate_word(fate))?),
-        Used::Answered(hears) => Ok(heard_word(alloc, hears)?),
+        Used::Closed(fate) => Ok(unmoved(alloc, fate_word(fate))?),
+        Used::Answered(hears) => Ok(told_by(alloc, hears)?),
     }
+}
+
+/// What moves no session, by the word for it.
+fn unmoved(alloc: Global, word: &str) -> Result<Told, AllocError>
+    ensures { IfOk result (λ given. given ≡ record { word = word.now; moves = false }) }
+{
+    Ok(Told {
+        word: Text::from_str(alloc, word)?,
+        moves: false,
+    })
+}
+
+/// What became of an answer by what a source heard in it.
+fn told_by(alloc: Global, hears: Hears) -> Result<Told, AllocError>
+    ensures { IfOk result (λ given. given ≡ record { word = steps.heard_word hears; moves = slots.is_moved hears }) }
+{
+    let moves = matches!(hears, Hears::Moved);
+    Ok(Told {
+        word: heard_word(alloc, hears)?,
+        moves,
+    })
 }
 
 /// The word for what a source heard.

@@ -18,6 +18,15 @@ pub struct Taken {
     pub answer: Option<Sent>,
 }
 
+/// What an end makes of a message that it doesn't answer.
+#[derive(Drop)]
+pub struct Told {
+    /// The word that is printed for it.
+    pub word: Text,
+    /// Whether a session goes on by it, or a lease stands.
+    pub moves: bool,
+}
+
 /// What an end that can't be opened makes of a message.
 pub(crate) fn closed(alloc: Global, fate: Fate) -> Result<Taken, AllocError>
     ensures { IfOk result (λ taken. taken ≡ outcomes.closed_of fate) }

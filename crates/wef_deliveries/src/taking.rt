@@ -19,7 +19,7 @@ ghost use Rattle.wef_places.specs.Collected.{collector_of};
 ghost use Rattle.wef_places.specs.Counted as counts;
 ghost use Rattle.wef_places.specs.Places as places;
 
-use crate::taken::{Taken, closed};
+use crate::taken::{Taken, Told, closed};
 use std::alloc::{AllocError, Global};
 use wef_base::{Bytes, Charset, Moment, SourceName, SubId, Text};
 use wef_batch::Batch;
@@ -282,22 +282,32 @@ fn reply_in(source: &SourceName, answer: Answer) -> Result<Option<Sent>, AllocEr
     Ok(Some(Sent::of(source.clone()?, content)))
 }
 
-/// Lets the collector take the bytes of an answer to a request, at a moment. Answers the word for what
-/// became of it.
+/// Lets the collector take the bytes of an answer to a request, at a moment.
 pub fn take_response<A: Answers>(
     alloc: Global,
     collector: &mut CollectorPlace,
     answers: &mut A,
     response: &ResponseBytes,
     now: Moment,
-) -> Result<Text, WorldFault>
+) -> Result<Told, WorldFault>
     requires formed { AreFormed (collector_of collector.old).rows }
     ensures collector { OnOk result (collector_of collector.new ≡ collected.heard_left response.now.relates response.now.answer now (collecting.collector_opened (collector_of collector.old))) }
-    ensures word { IfOk result (λ word. word ≡ outcomes.response_word (collector_of collector.old) response.now.relates response.now.answer now) }
+    ensures word { IfOk result (λ heard. heard.word ≡ outcomes.response_word (collector_of collector.old) response.now.relates response.now.answer now) }
+    ensures moves { IfOk result (λ heard. heard.moves ≡ outcomes.response_leases (collector_of collector.old) response.now.relates response.now.answer now) }
     ensures calls { OnOk result (A.calls answers.new ≡ counts.counted (counts.once (counts.is_open (collecting.collector_opened (collector_of collector.old)))) (A.calls answers.old)) }
 {
     let heard = collecting::hear(collector, alloc, answers, response.bytes(), now)?;
-    Ok(heard_word(alloc, &heard)?)
+    Ok(Told {
+        word: heard_word(alloc, &heard)?,
+        moves: leases(&heard),
+    })
+}
+
+/// Whether a lease stands by what the collector made of an answer.
+fn leases(heard: &Used<Called<Answered, CollectorFault>>) -> bool
+    ensures { result ≡ outcomes.heard_leases heard.now }
+{
+    matches!(heard, Used::Answered(Called::Done(Answered::Leased)))
 }
 
 /// The word for what the collector made of an answer.

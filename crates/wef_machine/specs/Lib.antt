@@ -2,10 +2,15 @@ pub mod Answering
 pub mod Arming
 pub mod Collecting
 pub mod Deliveries
+pub mod Keeping
 pub mod Leasing
+pub mod Measures
 pub mod Places
 pub mod Printed
+pub mod Rounds
 pub mod Seen
+pub mod Settling
 pub mod Sources
 pub mod States
 pub mod Steps
+pub mod Turns

@@ -20,7 +20,7 @@ use Rattle.wef_replay_values.specs.declared.end_name.EndName as the_end
 use Rattle.wef_replay_values.specs.declared.end_name.EndName.TheVariants as ends
 use Rattle.wef_replay.specs.Good.{is_good_after}
 use Rattle.wef_replay.specs.declared.lines.Line.{Line}
-use Rattle.wef_replay.specs.declared.lines.Line.TheVariants.{Subscribe, SubscribeAt, End, Batch, Source, Write, WriteXml, Ask, Poll, Deliver, Back, Request, Forget, Lost, Shut, Crash, Fail, Stop, Calm, Show, Print, Status, Tick}
+use Rattle.wef_replay.specs.declared.lines.Line.TheVariants.{Subscribe, SubscribeAt, End, Batch, Source, Write, WriteXml, Ask, Poll, Deliver, Back, Request, Forget, Lost, Shut, Crash, Fail, Stop, Calm, Show, Print, Status, Tick, Settle}
 use Rattle.wef_machine.specs.Answering.{answer_word}
 use Rattle.wef_machine.specs.Arming.{fate}
 use Rattle.wef_machine.specs.Collecting.{at_collector, print_at_collector, with_call}
@@ -31,6 +31,7 @@ use Rattle.wef_machine.specs.Printed.{batch_text, collector_name, fate_line, fat
 use Rattle.wef_machine.specs.Places.{armed_with, calmed, crashed}
 use Rattle.wef_machine.specs.Seen.{seen_printed}
 use Rattle.wef_machine.specs.Sources.{ask_printed, ask_step, at_declared, declared_slot, fate_text, lost_printed, lost_step, poll_printed, poll_step, write_printed, write_step}
+use Rattle.wef_machine.specs.Turns.{settle_step}
 use Rattle.wef_machine.specs.States.{State, address_of, calmed_slots, names_of, slot_of, start, with_collector, with_foreign, with_slot}
 use Rattle.wef_machine.specs.declared.arming.Armed.{Armed}
 use Rattle.wef_machine.specs.declared.arming.Fate.{Fate}
@@ -186,6 +187,7 @@ step Show state = at_collector state (λ memory. unchanged)
 step (Print u s c) state = at_collector state (λ memory. unchanged)
 step (Status u) state = at_collector state (λ memory. unchanged)
 step (Tick milliseconds) state = tick_step state milliseconds
+step Settle state = settle_step state
 
 -- what a line shows before it does anything: a message, where it asks for it
 abbrev pub seen_by : Line → State → List ℕ
@@ -218,6 +220,7 @@ told_by Show state = print_at_collector state closed_line (λ memory. show_text)
 told_by (Print u s c) state = print_at_collector state closed_line (λ memory. print_text u s c)
 told_by (Status u) state = print_at_collector state closed_line (λ memory. status_text u)
 told_by (Tick milliseconds) state = []
+told_by Settle state = codes "settled" ++ 10 ∷ []
 
 -- what it prints
 abbrev pub printed_by : Line → State → List ℕ

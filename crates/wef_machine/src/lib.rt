@@ -4,6 +4,8 @@
 
 pub mod arming;
 pub mod messages;
+pub mod verdicts;
 
 pub use arming::{Armed, Fate};
 pub use messages::Message;
+pub use verdicts::Verdict;

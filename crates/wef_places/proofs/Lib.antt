@@ -1,8 +1,10 @@
 pub mod Calmed
 pub mod CollectorCalls
 pub mod Heard
+pub mod InOrder
 pub mod Lent
 pub mod Opened
+pub mod Released
 pub mod Responses
 pub mod Restarted
 pub mod Settled

@@ -21,6 +21,7 @@ use Rattle.wef_machine.specs.Leasing.{response_effect, waiting_no_longer}
 use Rattle.wef_machine.specs.Places.{commits, remembering}
 use Rattle.wef_machine.specs.Printed.{collector_name, fate_line}
 use Rattle.wef_machine.specs.States as machine
+use Rattle.wef_machine.specs.Turns.{released}
 use Rattle.wef_machine.specs.Steps.{end_refused, subscribe_refused}
 use Rattle.wef_machine.specs.declared.arming.Fate as the_fate
 use Rattle.wef_places.specs.Places.{CalledAs, UsedAs, seen}
@@ -79,6 +80,14 @@ forgot_left c = forgot_where_runs c c.memory
 -- whether it runs is all that is answered to that
 abbrev pub ForgetsAs : the_fate.Fate → machine.Collector → Used Unit → Type 0
 ForgetsAs how c = UsedAs how c.memory (Unit {0}) (λ memory done. Unit {0})
+
+-- the collector once it gave up its leases, where it runs
+abbrev pub released_where_runs : machine.Collector → Option Memory → machine.Collector
+released_where_runs c None = c
+released_where_runs c (Some memory) = released c
+
+abbrev pub released_left : machine.Collector → machine.Collector
+released_left c = released_where_runs c c.memory
 
 -- the collector behind an answer to the message of an id, by what that does, where it runs
 abbrev pub heard_by : Option ℕ → Effect → machine.Collector → machine.Collector

@@ -1,9 +1,11 @@
 pub mod Codes
 pub mod Collected
 pub mod Counted
+pub mod Heard
 pub mod Made
 pub mod Places
 pub mod Polls
 pub mod Recorded
+pub mod Settling
 pub mod Slots
 pub mod Sourced

@@ -164,6 +164,14 @@ told_word told offered now end = heard_word (told_heard told offered now end)
 abbrev pub HearsAs : Slot → Option Told → Option Offered → ℕ → Used the_hears.Hears → Type 0
 HearsAs slot told offered now = AnswersAs slot (λ end hears. hears ≡ told_heard told offered now end)
 
+-- whether a session goes on by it
+abbrev pub is_moved : the_hears.Hears → Bool
+is_moved hears.Moved = true
+is_moved _ = false
+
+abbrev pub told_moves : Option Told → Option Offered → ℕ → End → Bool
+told_moves told offered now end = is_moved (told_heard told offered now end)
+
 -- A source that ends the sessions which collectors began.
 abbrev pub ShutsBy : Slot → Slot → End → Option (List EndNote) → Type 0
 ShutsBy slot slot' end None = (is_short end ≡ true) × (slot' ≡ slot)
@@ -206,3 +214,15 @@ word_by word (Some slot) = word_where_runs (slot_opening slot) word (slot_opened
 
 abbrev pub word_at : Slots → List ℕ → (End → List ℕ) → List ℕ
 word_at sources s word = word_by word (map.get sources s)
+
+-- whether it moved a session, where it runs
+abbrev pub moves_where_runs : (End → Bool) → Option End → Bool
+moves_where_runs moves None = false
+moves_where_runs moves (Some end) = moves end
+
+abbrev pub moves_by : (End → Bool) → Option Slot → Bool
+moves_by moves None = false
+moves_by moves (Some slot) = moves_where_runs moves (slot_opened slot).place.memory
+
+abbrev pub moves_at : Slots → List ℕ → (End → Bool) → Bool
+moves_at sources s moves = moves_by moves (map.get sources s)

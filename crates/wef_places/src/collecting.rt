@@ -173,6 +173,21 @@ pub fn forget(collector: &mut CollectorPlace, alloc: Global) -> Result<Used<()>,
     Ok(Used::Answered(()))
 }
 
+/// Lets the collector give up its leases. Whether that is done only the collector shows: a commit that
+/// fails is passed over.
+pub fn release(collector: &mut CollectorPlace, alloc: Global) -> Result<(), WorldFault>
+    requires formed { forms.AreFormed (collector_of collector.old).rows }
+    ensures collector { OnOk result (collector_of collector.new ≡ collected.released_left (collector_opened (collector_of collector.old))) }
+{
+    open(collector, alloc)?;
+    let Some(running) = collector.running() else {
+        return Ok(());
+    };
+    let released = running.release();
+    collector.settle_call(alloc, released)?;
+    Ok(())
+}
+
 /// Gives the collector the bytes of an answer to a request, at a moment.
 pub fn hear<A: Answers>(
     collector: &mut CollectorPlace,

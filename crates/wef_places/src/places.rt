@@ -90,10 +90,20 @@ pub enum Place<E> {
 }
 
 impl<E> Place<E> {
-    ghost use Rattle.std.specs.Option.{option_map};
+    ghost use Rattle.std.specs.Option.{option_copied, option_map};
     ghost use Rattle.wef_places.specs.Places.{end_in};
     ghost use Rattle.wef_places.specs.contracts.places.Place.{the_row};
     ghost use Rattle.wef_places.specs.declared.places.Place.TheVariants.{Running};
+
+    /// Shows the end, where it runs.
+    fn end(&self) -> Option<&E>
+        ensures { option_copied result ≡ end_in self.now }
+    {
+        match self {
+            Place::Running(end) => Some(end),
+            Place::Closed(_) => None,
+        }
+    }
 
     /// Lends the end, where it runs.
     fn running(&mut self) -> Option<&mut E>
@@ -133,7 +143,7 @@ pub struct Placed<E> {
 }
 
 impl<E: End> Placed<E> {
-    ghost use Rattle.std.specs.Option.{option_map};
+    ghost use Rattle.std.specs.Option.{option_copied, option_map};
     ghost use Rattle.std.specs.Prelude.{None};
     ghost use Rattle.wef_keeper.specs.Keeping.{is_armed};
     ghost use Rattle.wef_machine.specs.Places as machine;
@@ -178,6 +188,13 @@ impl<E: End> Placed<E> {
         };
         keeper.crash();
         self.place = Place::Closed(keeper);
+    }
+
+    /// Shows the end, where it runs.
+    pub fn end(&self) -> Option<&E>
+        ensures { option_copied result ≡ places.end_in self.now.place }
+    {
+        self.place.end()
     }
 
     /// Lends the end, where it runs.

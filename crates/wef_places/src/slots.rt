@@ -4,6 +4,8 @@ ghost use Rattle.std.specs.Prelude.{◌≡◌, ◌≤◌, IfOk, OnOk};
 ghost use Rattle.std.specs.declared.option.Option.TheVariants.{Some};
 ghost use Rattle.wef_base.specs.declared.numbers.TheConstants.{MAX};
 ghost use Rattle.wef_event.specs.Numbering.{numbered};
+ghost use Rattle.wef_machine.specs.Turns.{lost_each};
+ghost use Rattle.wef_source.specs.Machine.{lost_in};
 ghost use Rattle.wef_places.specs.Recorded as records;
 
 use crate::answers::Answers;
@@ -194,6 +196,7 @@ impl Slot {
     ghost use Rattle.wef_machine.specs.Places as places;
     ghost use Rattle.wef_machine.specs.Sources.{declared_slot, slot_opened};
     ghost use Rattle.wef_machine.specs.States.{slot_with};
+    ghost use Rattle.wef_machine.specs.Turns.{lost_place, sessions_in};
     ghost use Rattle.wef_places.specs.Counted as counts;
     ghost use Rattle.wef_places.specs.Slots as slots;
     ghost use Rattle.wef_source.specs.Machine.{lost_in};
@@ -317,6 +320,30 @@ impl Slot {
         Ok(Used::Answered(source.on_lost(sub).is_ok()))
     }
 
+    /// Gives up waiting for all answers, where the source runs. It isn't opened for that.
+    pub fn lose_all(&mut self, alloc: Global) -> Result<(), WorldFault>
+        ensures { OnOk result (self.new ≡ slot_with self.old (lost_place self.old.place)) }
+    {
+        let names = self.session_names(alloc)?;
+        if let Some(source) = self.placed.running() {
+            lose_each(source, names.as_slice());
+        }
+        Ok(())
+    }
+
+    /// The names of the sessions of a source that runs, in the order of their bytes.
+    pub fn session_names(&self, alloc: Global) -> Result<List<SubId>, WorldFault>
+        ensures { IfOk result (λ names. names ≡ sessions_in self.now.place.memory) }
+    {
+        let Some(source) = self.placed.end() else {
+            return Ok(List::new(alloc));
+        };
+        match source.sessions() {
+            Ok(names) => Ok(names),
+            Err(_) => Err(WorldFault::NoMemory),
+        }
+    }
+
     /// Ends the sessions that collectors began. None where fewer ids are left than there are ends to tell.
     pub fn shut(&mut self, alloc: Global) -> Result<Used<Option<List<EndNote>>>, WorldFault>
         requires formed { AreFormed self.old.place.rows }
@@ -375,6 +402,27 @@ impl Slot {
         let hears = answers.source_hears(source, body, now)?;
         Ok(Used::Answered(hears))
     }
+}
+
+/// Has sessions of a source wait for no answer any longer.
+fn lose_each(source: &mut SourceEnd<MemKeeper>, names: &[SubId])
+    ensures memory { source.new.memory ≡ lost_each source.old.memory names.now }
+    ensures keeper { source.new.keeper ≡ source.old.keeper }
+    ensures name { source.new.name ≡ source.old.name }
+{
+    for name in names {
+        lose_one(source, name);
+    }
+}
+
+/// Has the session of a name wait for no answer any longer, where there is one.
+#[tactic(auto, using(crate::proofs::Opened::lost_refused))]
+fn lose_one(source: &mut SourceEnd<MemKeeper>, name: &SubId)
+    ensures memory { source.new.memory ≡ lost_in source.old.memory name.now }
+    ensures keeper { source.new.keeper ≡ source.old.keeper }
+    ensures name { source.new.name ≡ source.old.name }
+{
+    let _ = source.on_lost(name);
 }
 
 /// Whether a write's record stands, by whether the changes of its commit are kept.

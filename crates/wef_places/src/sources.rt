@@ -1,14 +1,14 @@
 //! The declared sources.
 
 ghost use Rattle.std.specs.FinMap as finite;
-ghost use Rattle.std.specs.Prelude.{◌≡◌, map, OnOk};
+ghost use Rattle.std.specs.Prelude.{◌≡◌, map, IfOk, OnOk};
 ghost use Rattle.wef_replay.specs.Good.{is_among};
 
 use crate::slots::Slot;
 use std::alloc::{AllocError, Global};
 use std::collections::BTreeMap;
 use std::marker::Model;
-use wef_base::SourceName;
+use wef_base::{List, SourceName};
 
 /// Sources by their names.
 #[derive(Drop)]
@@ -36,7 +36,7 @@ impl Model for Sources {
 
 impl Sources {
     ghost use Rattle.std.specs.Borrow.{LendsIf, sem};
-    ghost use Rattle.std.specs.Option.{option_copied_mut};
+    ghost use Rattle.std.specs.Option.{option_copied, option_copied_mut};
     ghost use Rattle.wef_machine.specs.States as states;
     ghost use Rattle.wef_places.specs.contracts.slots.Slot as slot;
     ghost use Rattle.wef_places.specs.contracts.sources.Sources.{the_row};
@@ -57,12 +57,30 @@ impl Sources {
         self.slots.contains_key(name)
     }
 
+    /// The names of the sources, in the order of their bytes.
+    pub fn names(&self, alloc: Global) -> Result<List<SourceName>, AllocError>
+        ensures { IfOk result (λ names. names ≡ map (λ entry. entry.0) (finite.entries self.now)) }
+    {
+        let mut names = List::new(alloc);
+        for (name, _slot) in &self.slots {
+            names.push(name.clone()?)?;
+        }
+        Ok(names)
+    }
+
     /// Puts a source, in place of one of its name.
     pub fn put(&mut self, name: SourceName, slot: Slot) -> Result<(), AllocError>
         ensures { OnOk result (self.new ≡ finite.insert self.old name slot) }
     {
         drop(self.slots.insert(name, slot)?);
         Ok(())
+    }
+
+    /// Shows the source of a name, where there is one.
+    pub fn slot(&self, name: &SourceName) -> Option<&Slot>
+        ensures { option_copied result ≡ finite.get self.now name.now }
+    {
+        self.slots.get(name)
     }
 
     /// Lends a source, to change it where it is.

@@ -1,5 +1,5 @@
 -- Good lines are admitted: the world that lines leave has the names that they gave.
-use Rattle.std.proofs.Common.{◌≡◌, ℕ, Bool, true, false, not, ◌&&◌, ◌||◌, cond, List, [], ◌∷◌, Ordering, refl, ap, sym, ◌∙◌, Some}
+use Rattle.std.proofs.Common.{◌≡◌, ℕ, Bool, true, false, not, ◌&&◌, ◌||◌, cond, List, [], ◌∷◌, length, Ordering, refl, ap, sym, ◌∙◌, Some}
 use Rattle.std.proofs.lemmas.Map.Lookups.{exact_bytes}
 use Rattle.std.specs.Prelude.{Option, None, Ok, Err, is_some}
 use Rattle.std.specs.Cmp.Lexicographic.{nat_list_cmp_total, slice_cmp, texts_ties}
@@ -27,7 +27,7 @@ use Rattle.wef_replay_values.specs.declared.end_name.EndName.TheVariants as ends
 use Rattle.wef_replay.specs.Alike.{AreAlike}
 use Rattle.wef_replay.specs.Good.{AreGood, Names, allows, has_end, is_among, is_line, no_names, noted}
 use Rattle.wef_replay.specs.declared.lines.Line.{Line}
-use Rattle.wef_replay.specs.declared.lines.Line.TheVariants.{Subscribe, SubscribeAt, End, Batch, Source, Write, WriteXml, Ask, Poll, Deliver, Back, Request, Forget, Lost, Shut, Crash, Fail, Stop, Calm, Show, Print, Status, Tick}
+use Rattle.wef_replay.specs.declared.lines.Line.TheVariants.{Subscribe, SubscribeAt, End, Batch, Source, Write, WriteXml, Ask, Poll, Deliver, Back, Request, Forget, Lost, Shut, Crash, Fail, Stop, Calm, Show, Print, Status, Tick, Settle}
 use Rattle.wef_source.specs.Machine as machine
 use Rattle.wef_source.specs.Sessions.{has_expired, session_of}
 use Rattle.wef_building.specs.declared.sessions.Session.{Session}
@@ -36,17 +36,20 @@ use Rattle.wef_source_log.specs.declared.faults.LogFault.{LogFault}
 use Rattle.wef_machine.specs.Answering.{answer_with, answers_by, with_answer}
 use Rattle.wef_machine.specs.Collecting as collecting
 use Rattle.wef_machine.specs.Collecting.{at_collector, reply_id, with_call, with_reply}
-use Rattle.wef_machine.specs.Deliveries.{after_ack, after_fault, after_offers, beat_at, beat_effect, deliver_message, delivery_effect, end_at, events_at, message_at, number_back, offers_at, taken_by}
+use Rattle.wef_machine.specs.Deliveries.{after_ack, after_fault, after_offers, beat_at, beat_effect, deliver_message, deliver_step, delivery_effect, end_at, events_at, message_at, number_back, offers_at, taken_by}
 use Rattle.wef_machine.specs.Leasing.{forget_at, is_short, note_at, note_effect, request_at, request_by, request_done, request_said, responded, responds_at, response_at, response_by, response_effect, response_message, shut_at, with_sent}
-use Rattle.wef_machine.specs.Sources.{ask_at, at_declared, at_source, lost_at, poll_at, poll_in, slot_opened, write_at, write_by}
+use Rattle.wef_machine.specs.Sources.{ask_at, ask_step, at_declared, at_source, lost_at, poll_at, poll_in, poll_step, slot_opened, write_at, write_by}
 use Rattle.wef_machine.specs.Places.{Place, after_call, armed_with, crashed}
 use Rattle.wef_machine.specs.States.{Collector, Slot, State, calmed_slot, declared_names, host, names_of, slot_of, start, with_collector, with_foreign, with_message, with_messages, with_slot}
 use Rattle.wef_machine.specs.Steps.{AreAdmitted, arm_step, batch_at, begun_subscription, calm_step, crash_step, end_at as ended_at, step, subscribe_at, subscription_of, tick_step, unchanged}
+use Rattle.wef_machine.specs.Turns.{lose_at, lost_place, release_at, release_step, released, request_step, settle_step}
 use Rattle.wef_machine.specs.declared.arming.Armed.{Armed}
 use Rattle.wef_machine.specs.declared.messages.Message.{Message}
 use Rattle.wef_machine.specs.declared.messages.Message.TheVariants as sent
 use Rattle.wef_safety.proofs.CollectorSteps.{at_collector_any}
 use Rattle.wef_machine.proofs.Declared.{among_declared, calmed_at, first_or_rest}
+use Rattle.wef_safety.proofs.Losing.{all_lost}
+use Rattle.wef_safety.proofs.Settling.{AreStepping, settle_keeps}
 use Rattle.wef_safety.proofs.SourceSteps.{at_source_any}
 use Rattle.wef_promises.specs.Admitting.{GoodLinesAreAdmitted}
 
@@ -220,6 +223,21 @@ same_calm state = record { declared = λ s. ap is_some (calmed_at state.sources 
 same_tick : (state : State) (milliseconds : ℕ) → HasSameSources state (tick_step state milliseconds)
 same_tick state milliseconds = record { declared = λ s. refl; foreign = refl }
 
+-- ---- settling declares nothing
+
+same_steps : (state : State) → AreStepping (HasSameSources state)
+same_steps state = record {
+  releases = λ now h. same_both state now (release_step now) h (same_at_collector now release_at (λ memory here. same_collector here here (released here.collector) (same_itself here)));
+  loses = λ now h. all_lost (HasSameSources state) (λ each s so_far. same_both state each (lose_at each s) so_far (same_at_declared each s lost_place)) (declared_names now) now h;
+  asks = λ s now h. same_both state now (ask_step now s) h (same_at_source now s (ask_at s) (keeps_ask s));
+  requests = λ now h. same_both state now (request_step now) h (same_at_collector now request_at same_request);
+  polls = λ s u now h. same_both state now (poll_step now s u) h (same_at_source now s (poll_at s u) (keeps_poll s u));
+  delivers = λ now h. same_both state now (deliver_step now (length now.messages)) h (same_delivered now (message_at now (length now.messages)));
+}
+
+same_settled : (state : State) → HasSameSources state (settle_step state)
+same_settled state = settle_keeps (HasSameSources state) (same_steps state) state (same_itself state)
+
 -- ---- each line leaves the names that it gave
 
 same_names : (old new : State) (names : Names) → HasSameSources old new → AreAlike (names_of old) names → AreAlike (names_of new) names
@@ -288,6 +306,7 @@ leaves_names Show state names alike = same_names state (step Show state) names (
 leaves_names (Print u s c) state names alike = same_names state (step (Print u s c) state) names (same_at_collector state (λ memory. unchanged) (λ memory now. same_itself now)) alike
 leaves_names (Status u) state names alike = same_names state (step (Status u) state) names (same_at_collector state (λ memory. unchanged) (λ memory now. same_itself now)) alike
 leaves_names (Tick milliseconds) state names alike = same_names state (step (Tick milliseconds) state) names (same_tick state milliseconds) alike
+leaves_names Settle state names alike = same_names state (step Settle state) names (same_settled state) alike
 
 -- ---- so each good line is admitted
 

@@ -21,7 +21,7 @@ use Rattle.wef_collector.specs.Responses.{lease_changes, leasing_effect, leasing
 use Rattle.wef_collector.specs.declared.memories.Memory.{Memory}
 use Rattle.wef_collector.specs.declared.responses.Leasing.{Leasing}
 use Rattle.wef_collector.specs.declared.responses.Response.{Response}
-use Rattle.wef_collector_leases.specs.Changes.{end_lease}
+use Rattle.wef_collector_leases.specs.Changes.{end_lease, release_changes}
 use Rattle.wef_collector_leases.specs.Next.{next_due}
 use Rattle.wef_collector_leases.specs.declared.next.Due.{Due}
 use Rattle.wef_collector_leases.specs.declared.waiting.Waiting.{Waiting}
@@ -51,7 +51,7 @@ use Rattle.wef_keeper.specs.declared.kinds.RowKind.TheVariants as kinds
 use Rattle.wef_replay_values.specs.declared.end_name.EndName.{EndName}
 use Rattle.wef_replay_values.specs.declared.end_name.EndName.TheVariants as ends
 use Rattle.wef_replay.specs.declared.lines.Line.{Line}
-use Rattle.wef_replay.specs.declared.lines.Line.TheVariants.{Subscribe, SubscribeAt, End, Batch, Source, Write, WriteXml, Ask, Poll, Deliver, Back, Request, Forget, Lost, Shut, Crash, Fail, Stop, Calm, Show, Print, Status, Tick}
+use Rattle.wef_replay.specs.declared.lines.Line.TheVariants.{Subscribe, SubscribeAt, End, Batch, Source, Write, WriteXml, Ask, Poll, Deliver, Back, Request, Forget, Lost, Shut, Crash, Fail, Stop, Calm, Show, Print, Status, Tick, Settle}
 use Rattle.wef_source.specs.Machine as machine
 use Rattle.wef_source.specs.Sessions.{has_expired, session_of}
 use Rattle.wef_source.specs.declared.messages.Delivery.{Delivery}
@@ -69,22 +69,25 @@ use Rattle.wef_safety.specs.Kept.{AreInOrder, IsDrawnBefore, IsHeld}
 use Rattle.wef_machine.specs.Places.{Place, armed_with, commits, crashed, opened_by, starts}
 use Rattle.wef_safety.specs.Safe.{WasSent}
 use Rattle.wef_machine.specs.Sources.{ask_at, at_declared, at_source, lost_at, poll_at, poll_in, write_at, write_by}
-use Rattle.wef_machine.specs.States.{Slot, State, host, slot_of, start, with_collector, with_end, with_foreign}
+use Rattle.wef_machine.specs.States.{Slot, State, declared_names, host, slot_of, start, with_collector, with_end, with_foreign}
 use Rattle.wef_machine.specs.Steps as steps
 use Rattle.wef_machine.specs.Steps.{arm_step, batch_at, begun_subscription, crash_step, states_from, step, subscribe_at, subscription_of, unchanged}
+use Rattle.wef_machine.specs.Turns.{forgets_by, lost_place, release_at}
 use Rattle.wef_machine.specs.declared.arming.Armed.{Armed}
 use Rattle.wef_machine.specs.declared.arming.Fate.{Fate}
 use Rattle.wef_machine.specs.declared.arming.Fate.TheVariants.{Done, Failed, Stopped}
 use Rattle.wef_machine.specs.declared.messages.Message.{Message}
 use Rattle.wef_machine.specs.declared.messages.Message.TheVariants as sent
 use Rattle.wef_safety.proofs.CollectorSteps.{at_collector_any, committed_both, done_leaves}
+use Rattle.wef_safety.proofs.Losing.{all_lost}
 use Rattle.wef_safety.proofs.Lower.{Lower}
 use Rattle.wef_safety.proofs.Moves.{ordered_with}
 use Rattle.wef_safety.proofs.Sent.{all_map, sent_split}
+use Rattle.wef_safety.proofs.Settling.{AreStepping, settle_keeps}
 use Rattle.wef_safety.proofs.SourceSteps.{at_source_any}
 use Rattle.wef_pairs.proofs.Spared.{IsMissed, spared}
 use Rattle.wef_safety.proofs.Steps.{schedules_are_kept}
-use Rattle.wef_promises.proofs.OtherRows.{hearing_leaves, leasing_leaves, noting_leaves}
+use Rattle.wef_promises.proofs.OtherRows.{hearing_leaves, leasing_leaves, noting_leaves, releasing_leaves}
 use Rattle.wef_promises.specs.Drawing.{IsReplyBefore, ReplyIdsRise, RequestIdsRise, reply_of}
 
 pub request_ids_rise : Lower → RequestIdsRise
@@ -196,6 +199,10 @@ request_drawn rows memory messages due drawn =
 forgotten_drawn : (rows : Rows) (memory : Memory) (messages : List Message) → AreRepliesDrawn rows (Some memory) messages → AreRepliesDrawn rows (Some (forgotten memory)) messages
 forgotten_drawn rows memory messages drawn = goes_on rows rows (Some memory) (Some (forgotten memory)) messages drawn (omega arith) drawn.own
 
+forgets_drawn : (rows : Rows) (memory : Option Memory) (messages : List Message) → AreRepliesDrawn rows memory messages → AreRepliesDrawn rows (option_map forgotten memory) messages
+forgets_drawn rows None messages drawn = drawn
+forgets_drawn rows (Some memory) messages drawn = forgotten_drawn rows memory messages drawn
+
 -- the answer to an id isn't
 answered_drawn : (rows : Rows) (id : Option ℕ) (memory : Option Memory) (messages : List Message) → AreRepliesDrawn rows memory messages →
     AreRepliesDrawn rows (option_map (answered_in id) memory) messages
@@ -230,6 +237,9 @@ boot_by_leasing rows u s leasing = boot_stays (applied (lease_changes rows u s l
 
 boot_by_noting : (rows : Rows) (u s identifier : List ℕ) → boot_of (applied (end_lease rows u s identifier) rows) ≡ boot_of rows
 boot_by_noting rows u s identifier = boot_stays (applied (end_lease rows u s identifier) rows) rows (noting_leaves rows u s identifier boot_key apart_boot)
+
+boot_by_releasing : (rows : Rows) → boot_of (applied (release_changes rows) rows) ≡ boot_of rows
+boot_by_releasing rows = boot_stays (applied (release_changes rows) rows) rows (releasing_leaves rows boot_key apart_boot)
 
 -- nor is it of when a source was heard
 apart_heard : number_of kinds.Heard ≢ number_of kinds.CollectorBoot
@@ -435,6 +445,19 @@ request_draws now memory runs drawn = by_due (next_due now.collector.rows memory
 forget_draws : (now : State) (memory : Memory) → now.collector.memory ≡ Some memory → Draws now → Draws (forget_at memory now)
 forget_draws now memory runs drawn = forgotten_drawn now.collector.rows memory now.messages (draws_with now memory runs drawn)
 
+release_draws : (now : State) (memory : Memory) → Draws now → Draws (release_at memory now)
+release_draws now memory drawn = by_fate (fate now.collector.armed (release_changes now.collector.rows))
+  where
+    after : Draws (with_collector now (commits now.collector (release_changes now.collector.rows)))
+    after = called now (release_changes now.collector.rows) drawn (boot_by_releasing now.collector.rows)
+
+    by_fate : (how : Fate) → Draws (with_collector now (forgets_by how (commits now.collector (release_changes now.collector.rows))))
+    by_fate Done =
+        let place = commits now.collector (release_changes now.collector.rows) in
+        forgets_drawn place.rows place.memory now.messages after
+    by_fate Failed = after
+    by_fate Stopped = after
+
 response_draws : (now : State) (relates : MessageId) (answer : Response) (memory : Memory) → Draws now → Draws (response_at relates answer memory now)
 response_draws now relates answer memory drawn =
     by_effect (response_effect memory relates answer now.moment now.collector.rows) (response_keeps now.collector.rows (waiting_for memory relates.value) answer now.moment)
@@ -537,6 +560,20 @@ arm_draws : (state : State) (end : EndName) (armed : Armed) → Draws state → 
 arm_draws state ends.Collector armed drawn = drawn
 arm_draws state (ends.Source s) armed drawn = declared_draws state s (λ place. armed_with place armed) (slot_of state s) drawn
 
+-- ---- settling
+
+steps_draw : AreStepping Draws
+steps_draw = record {
+  releases = λ now drawn. at_collector_draws now release_at drawn (λ memory here runs here_drawn. release_draws here memory here_drawn);
+  loses = λ now drawn. all_lost Draws (λ each s so_far. declared_draws each s lost_place (slot_of each s) so_far) (declared_names now) now drawn;
+  asks = λ s now drawn. at_source_draws now s (ask_at s) drawn (ask_draws s);
+  requests = λ now drawn. at_collector_draws now request_at drawn (λ memory here runs here_drawn. request_draws here memory runs here_drawn);
+  polls = λ s u now drawn. at_source_draws now s (poll_at s u) drawn (poll_draws s u);
+  delivers = λ now drawn. delivered_draws now (message_at now (length now.messages)) drawn;
+}
+
+-- ---- each line
+
 step_draws : (state : State) (line : Line) → Draws state → Draws (step line state)
 step_draws state (Subscribe u items bytes beat query) drawn = subscribe_draws state (subscription_of u items bytes beat query) drawn
 step_draws state (SubscribeAt u s items bytes beat expires query) drawn = subscribe_draws state (begun_subscription u s items bytes beat expires query) drawn
@@ -564,6 +601,7 @@ step_draws state Show drawn = at_collector_draws state (λ memory. unchanged) dr
 step_draws state (Print u s c) drawn = at_collector_draws state (λ memory. unchanged) drawn (λ memory now runs now_drawn. now_drawn)
 step_draws state (Status u) drawn = at_collector_draws state (λ memory. unchanged) drawn (λ memory now runs now_drawn. now_drawn)
 step_draws state (Tick milliseconds) drawn = drawn
+step_draws state Settle drawn = settle_keeps Draws steps_draw state drawn
 
 -- ---- schedules
 

@@ -1,5 +1,5 @@
 -- What lasts: whatever a line does, no subscription is forgotten and no bookmark falls.
-use Rattle.std.proofs.Common.{◌≡◌, ℕ, ◌+◌, List, [], ◌∷◌, Bool, true, false, cond, nat_lt, refl, arith, Option, Some, None}
+use Rattle.std.proofs.Common.{◌≡◌, ℕ, ◌+◌, List, [], ◌∷◌, Bool, true, false, cond, nat_lt, length, refl, arith, Option, Some, None}
 use Rattle.std.proofs.lemmas.Bool.{cond_both}
 use Rattle.std.specs.Prelude.{Ok, Err}
 use Rattle.std.specs.FinMap as finite
@@ -16,7 +16,7 @@ use Rattle.wef_collector.specs.Responses.{lease_changes, leasing_effect, leasing
 use Rattle.wef_collector.specs.declared.memories.Memory.{Memory}
 use Rattle.wef_collector.specs.declared.responses.Leasing.{Leasing}
 use Rattle.wef_collector.specs.declared.responses.Response.{Response}
-use Rattle.wef_collector_leases.specs.Changes.{end_lease}
+use Rattle.wef_collector_leases.specs.Changes.{end_lease, release_changes}
 use Rattle.wef_collector_leases.specs.Next.{next_due}
 use Rattle.wef_collector_leases.specs.declared.next.Due.{Due}
 use Rattle.wef_collector_leases.specs.declared.waiting.Waiting.{Waiting}
@@ -42,7 +42,7 @@ use Rattle.wef_keeper.specs.declared.keys.Change.{Change}
 use Rattle.wef_replay_values.specs.declared.end_name.EndName.{EndName}
 use Rattle.wef_replay_values.specs.declared.end_name.EndName.TheVariants as ends
 use Rattle.wef_replay.specs.declared.lines.Line.{Line}
-use Rattle.wef_replay.specs.declared.lines.Line.TheVariants.{Subscribe, SubscribeAt, End, Batch, Source, Write, WriteXml, Ask, Poll, Deliver, Back, Request, Forget, Lost, Shut, Crash, Fail, Stop, Calm, Show, Print, Status, Tick}
+use Rattle.wef_replay.specs.declared.lines.Line.TheVariants.{Subscribe, SubscribeAt, End, Batch, Source, Write, WriteXml, Ask, Poll, Deliver, Back, Request, Forget, Lost, Shut, Crash, Fail, Stop, Calm, Show, Print, Status, Tick, Settle}
 use Rattle.wef_source.specs.Machine as machine
 use Rattle.wef_source.specs.Sessions.{has_expired, session_of}
 use Rattle.wef_source.specs.declared.messages.Delivery.{Delivery}
@@ -51,25 +51,30 @@ use Rattle.wef_building.specs.declared.sessions.Session.{Session}
 use Rattle.wef_source_log.specs.Answers as log
 use Rattle.wef_source_log.specs.declared.faults.LogFault.{LogFault}
 use Rattle.wef_machine.specs.Answering.{answer_with, answers_by, with_answer}
-use Rattle.wef_machine.specs.Arming.{committed}
+use Rattle.wef_machine.specs.Arming.{committed, fate}
 use Rattle.wef_machine.specs.Collecting as collecting
 use Rattle.wef_machine.specs.Collecting.{at_collector, reply_id, with_call}
-use Rattle.wef_machine.specs.Deliveries.{BatchEffect, after_ack, after_fault, after_offers, batch_effect, batch_effect_by, beat_at, beat_effect, deliver_message, delivery_effect, effect_at, end_at, events_at, heard_effect, heard_effect_by, message_at, number_back, offers_at, taken_by}
+use Rattle.wef_machine.specs.Deliveries.{BatchEffect, after_ack, after_fault, after_offers, batch_effect, batch_effect_by, beat_at, beat_effect, deliver_message, deliver_step, delivery_effect, effect_at, end_at, events_at, heard_effect, heard_effect_by, message_at, number_back, offers_at, taken_by}
 use Rattle.wef_machine.specs.Leasing.{ended_effect, ended_effect_by, forget_at, is_short, note_at, note_effect, request_at, request_by, request_done, request_said, responded, responds_at, response_at, response_by, response_message, shut_at, with_sent}
-use Rattle.wef_machine.specs.Places.{Place, armed_with, crashed, opened_by, starts}
-use Rattle.wef_machine.specs.Sources.{ask_at, at_declared, at_source, lost_at, poll_at, poll_in, write_at, write_by}
-use Rattle.wef_machine.specs.States.{Slot, State, host, slot_of, with_end, with_foreign}
+use Rattle.wef_machine.specs.Places.{Place, armed_with, commits, crashed, opened_by, starts}
+use Rattle.wef_machine.specs.Sources.{ask_at, ask_step, at_declared, at_source, lost_at, poll_at, poll_in, poll_step, write_at, write_by}
+use Rattle.wef_machine.specs.States.{Slot, State, declared_names, host, slot_of, with_collector, with_end, with_foreign}
 use Rattle.wef_machine.specs.Steps as steps
 use Rattle.wef_machine.specs.Steps.{arm_step, batch_at, begun_subscription, crash_step, step, subscribe_at, subscription_of, unchanged}
+use Rattle.wef_machine.specs.Turns.{forgets_by, lose_at, lost_place, release_at, release_step, request_step}
 use Rattle.wef_machine.specs.declared.arming.Armed.{Armed}
+use Rattle.wef_machine.specs.declared.arming.Fate.{Fate}
+use Rattle.wef_machine.specs.declared.arming.Fate.TheVariants.{Done, Failed, Stopped}
 use Rattle.wef_machine.specs.declared.messages.Message.{Message}
 use Rattle.wef_machine.specs.declared.messages.Message.TheVariants as sent
 use Rattle.wef_safety.proofs.Aside.{booted_aside, grows_aside}
 use Rattle.wef_safety.proofs.CollectorSteps.{at_collector_any, committed_both}
 use Rattle.wef_safety.proofs.Growing.{RowsGrow, same_rows}
+use Rattle.wef_safety.proofs.Losing.{all_lost}
+use Rattle.wef_safety.proofs.Settling.{AreStepping, settle_keeps}
 use Rattle.wef_safety.proofs.SourceSteps.{at_source_any}
 use Rattle.wef_safety.proofs.RowMoves.{adding_grows, ending_grows, taking_grows}
-use Rattle.wef_promises.proofs.OtherRows.{hearing_aside, leasing_aside, noting_aside}
+use Rattle.wef_promises.proofs.OtherRows.{hearing_aside, leasing_aside, noting_aside, releasing_aside}
 use Rattle.wef_promises.specs.Laws.{BookmarksNeverFall, SubscriptionsStay}
 
 abbrev Lasts : State → State → Type 0
@@ -220,6 +225,20 @@ note_lasts s note memory state =
     by_address (Some u) None = as_it_is state
     by_address (Some u) (Some r) = by_standing u r (is_known (standing state.collector.rows u))
 
+released_last : (memory : Memory) (state : State) → Lasts state (release_at memory state)
+released_last memory state = by_fate (fate state.collector.armed (release_changes state.collector.rows))
+  where
+    after : Lasts state (with_collector state (commits state.collector (release_changes state.collector.rows)))
+    after =
+        let rows = state.collector.rows in
+        let changes = release_changes rows in
+        commit_lasts state.collector.armed changes rows (grows_aside (applied changes rows) rows (releasing_aside rows))
+
+    by_fate : (how : Fate) → Lasts state (with_collector state (forgets_by how (commits state.collector (release_changes state.collector.rows))))
+    by_fate Done = after
+    by_fate Failed = after
+    by_fate Stopped = after
+
 -- ---- sources: what is done at one leaves the collector's rows
 
 abbrev Leaves : (State → Slot → machine.End → State) → Type 0
@@ -295,6 +314,23 @@ arm_lasts : (state : State) (end : EndName) (armed : Armed) → Lasts state (arm
 arm_lasts state ends.Collector armed = as_it_is state
 arm_lasts state (ends.Source s) armed = at_declared_lasts state s (λ place. armed_with place armed) (slot_of state s)
 
+-- ---- settling
+
+steps_last : (state : State) → AreStepping (Lasts state)
+steps_last state = record {
+  releases = λ now h. then_lasts now (release_step now) h (at_collector_lasts now release_at released_last);
+  loses = λ now h. all_lost (Lasts state) (λ each s so_far. then_lasts each (lose_at each s) so_far (at_declared_lasts each s lost_place (slot_of each s))) (declared_names now) now h;
+  asks = λ s now h. then_lasts now (ask_step now s) h (at_source_lasts now s (ask_at s) (ask_leaves s));
+  requests = λ now h. then_lasts now (request_step now) h (at_collector_lasts now request_at request_lasts);
+  polls = λ s u now h. then_lasts now (poll_step now s u) h (at_source_lasts now s (poll_at s u) (poll_leaves s u));
+  delivers = λ now h. then_lasts now (deliver_step now (length now.messages)) h (delivered_lasts now (message_at now (length now.messages)));
+}
+  where
+    then_lasts : (now next : State) → Lasts state now → Lasts now next → Lasts state next
+    then_lasts now next h k = both state.collector.rows now.collector.rows next.collector.rows h k
+
+-- ---- each line
+
 lasts : (state : State) (line : Line) → Lasts state (step line state)
 lasts state (Subscribe u items bytes beat query) =
     at_collector_lasts state (λ memory. subscribe_at (subscription_of u items bytes beat query)) (λ memory. subscribe_lasts (subscription_of u items bytes beat query))
@@ -321,6 +357,7 @@ lasts state Show = at_collector_lasts state (λ memory. unchanged) (λ memory no
 lasts state (Print u s c) = at_collector_lasts state (λ memory. unchanged) (λ memory now. as_it_is now)
 lasts state (Status u) = at_collector_lasts state (λ memory. unchanged) (λ memory now. as_it_is now)
 lasts state (Tick milliseconds) = as_it_is state
+lasts state Settle = settle_keeps (Lasts state) (steps_last state) state (as_it_is state)
 
 pub subscriptions_stay : SubscriptionsStay
 subscriptions_stay state line u about e = (lasts state line).known u about e

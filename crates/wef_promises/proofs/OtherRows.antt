@@ -10,8 +10,8 @@ use Rattle.wef_collector.specs.Responses.{lease_changes}
 use Rattle.wef_collector.specs.Taken.{heard_changes}
 use Rattle.wef_collector.specs.declared.responses.Leasing.{Leasing}
 use Rattle.wef_collector.specs.declared.responses.Leasing.TheVariants.{Leases, Clears, Stays}
-use Rattle.wef_collector_leases.specs.Changes.{delete_kept, delete_lease, delete_named, end_lease, is_lease, put_lease, put_over}
-use Rattle.wef_collector_leases.specs.Leases.{lease_at}
+use Rattle.wef_collector_leases.specs.Changes.{delete_kept, delete_lease, delete_named, end_lease, is_lease, put_lease, put_over, release_changes}
+use Rattle.wef_collector_leases.specs.Leases.{lease_at, lease_rows}
 use Rattle.wef_collector_leases.specs.declared.leases.Lease as leases
 use Rattle.wef_collector_rows.specs.Keys.{heard_key}
 use Rattle.wef_keeper.specs.Kinds.{number_of}
@@ -22,6 +22,7 @@ use Rattle.wef_keeper.specs.declared.keys.Key.{Key}
 use Rattle.wef_keeper.specs.declared.kinds.RowKind.TheVariants.{Heard, Lease, Loose}
 use Rattle.wef_pairs.proofs.Takes.{kind_apart}
 use Rattle.wef_safety.proofs.Aside.{AreAside}
+use Rattle.wef_safety.proofs.LeaseRows.{all_released, leases_are_rows}
 
 -- ---- leases
 
@@ -67,6 +68,10 @@ leasing_leaves rows u s leasing key other = stays (lease_changes rows u s leasin
 pub noting_leaves : (rows : Rows) (u s identifier : List ℕ) (key : Key) → number_of Lease ≢ key.kind → finite.get (applied (end_lease rows u s identifier) rows) key ≡ finite.get rows key
 noting_leaves rows u s identifier key other = stays (end_lease rows u s identifier) rows key other (named_of_lease u s identifier (lease_at rows u s))
 
+-- where all end at once
+pub releasing_leaves : (rows : Rows) (key : Key) → number_of Lease ≢ key.kind → finite.get (applied (release_changes rows) rows) key ≡ finite.get rows key
+releasing_leaves rows key other = stays (release_changes rows) rows key other (all_released IsOfLease (λ own kind. kind) (lease_rows rows) (leases_are_rows rows))
+
 -- so what stands of subscriptions and pairs stays
 low_apart : (n : ℕ) → n ≤ number_of Loose → number_of Lease ≢ n
 low_apart n low e = omega arith
@@ -76,6 +81,9 @@ leasing_aside rows u s leasing key low = leasing_leaves rows u s leasing key (lo
 
 pub noting_aside : (rows : Rows) (u s identifier : List ℕ) → AreAside (applied (end_lease rows u s identifier) rows) rows
 noting_aside rows u s identifier key low = noting_leaves rows u s identifier key (low_apart key.kind low)
+
+pub releasing_aside : (rows : Rows) → AreAside (applied (release_changes rows) rows) rows
+releasing_aside rows key low = releasing_leaves rows key (low_apart key.kind low)
 
 -- ---- when a source was heard
 

@@ -10,7 +10,7 @@ use Rattle.wef_replay.specs.Good.{Names, allows, has_end, noted}
 use Rattle.wef_replay.specs.Grammar.{meaning}
 use Rattle.wef_replay.specs.Schedule.{first_bad, if_allowed, lines_of, meaning_after, noted_if_some, with_line}
 use Rattle.wef_replay.specs.declared.lines.Line.{Line}
-use Rattle.wef_replay.specs.declared.lines.Line.TheVariants.{Subscribe, SubscribeAt, End, Batch, Source, Write, WriteXml, Ask, Poll, Deliver, Back, Request, Forget, Lost, Shut, Show, Print, Status, Crash, Fail, Stop, Calm, Tick}
+use Rattle.wef_replay.specs.declared.lines.Line.TheVariants.{Subscribe, SubscribeAt, End, Batch, Source, Write, WriteXml, Ask, Poll, Deliver, Back, Request, Forget, Lost, Shut, Show, Print, Status, Crash, Fail, Stop, Calm, Tick, Settle}
 
 -- ---- one text
 
@@ -61,6 +61,7 @@ alike_noted (Fail e after) a b alike = alike
 alike_noted (Stop e after) a b alike = alike
 alike_noted Calm a b alike = alike
 alike_noted (Tick ms) a b alike = alike
+alike_noted Settle a b alike = alike
 
 alike_noted_if_some : (act : Option Line) (a b : Names) → AreAlike a b → AreAlike (noted_if_some act a) (noted_if_some act b)
 alike_noted_if_some None a b alike = alike
@@ -94,6 +95,7 @@ allows-alike (Fail e after) a b alike = has_end-alike e a b alike
 allows-alike (Stop e after) a b alike = has_end-alike e a b alike
 allows-alike Calm a b alike = refl
 allows-alike (Tick ms) a b alike = refl
+allows-alike Settle a b alike = refl
 
 if_allowed-alike : (act : Option Line) (a b : Names) → AreAlike a b → if_allowed a act ≡ if_allowed b act
 if_allowed-alike None a b alike = refl

@@ -22,7 +22,7 @@ use Rattle.wef_replay_values.specs.declared.end_name.EndName.TheVariants as end
 use Rattle.wef_replay.specs.BatchWords.{empty_batch, read_words}
 use Rattle.wef_lines.specs.Documents.{new_event_in}
 use Rattle.wef_replay.specs.Good.{are_limits, are_queries, fits_always, may_be_written, is_between, is_channel, is_count, is_end, is_line, is_no_collector, is_query, is_query_text, is_source, is_subscription}
-use Rattle.wef_replay.specs.Grammar.{all_of, batch_line, calm_line, collector_line_of, commit_words, crash_line, deliver_line, does_nothing, event_if_xml, event_words, failure_line_of, fitting_event, forget_line, if_fits, limit_words, line_of_words, meaning, message_line_of, only_number_words, only_source_words, only_subscription_words, other_line, pair_words, print_line, query_words, request_line, seen_words, show_line, source_line, source_line_of, subscribe_at_line, subscribe_line, write_line, write_xml_line, xml_event_words}
+use Rattle.wef_replay.specs.Grammar.{all_of, batch_line, calm_line, collector_line_of, commit_words, crash_line, deliver_line, does_nothing, event_if_xml, event_words, failure_line_of, fitting_event, forget_line, if_fits, limit_words, line_of_words, meaning, message_line_of, only_number_words, only_source_words, only_subscription_words, other_line, pair_words, print_line, query_words, request_line, seen_words, settle_line, show_line, source_line, source_line_of, subscribe_at_line, subscribe_line, write_line, write_xml_line, xml_event_words}
 use Rattle.wef_replay.specs.PlainEvents.{HasPlainEvents}
 use Rattle.wef_replay.specs.declared.lines.Line.{Line}
 use Rattle.wef_replay.specs.declared.lines.Line.TheVariants.{Subscribe, SubscribeAt, End, Batch, Source, Write, WriteXml, Ask, Poll, Deliver, Back, Lost, Shut, Print, Status, Crash, Fail, Stop, Tick}
@@ -288,6 +288,12 @@ good-calm_line (word ∷ words) = tt
 good-tick_line : (words : List (List ℕ)) → AllOf IsGoodLine (option_map (λ n. Tick n) (only_number_words words))
 good-tick_line words = all_of-map _ IsGoodLine (λ n. Tick n) (only_number_words words) (good-only_number_words words) (λ n h. (h, tt))
 
+-- ---- settling
+
+good-settle_line : (words : List (List ℕ)) → AllOf IsGoodLine (settle_line words)
+good-settle_line [] = (refl, tt)
+good-settle_line (word ∷ words) = tt
+
 -- ---- any line
 
 good-failure_line_of : (kind : List ℕ) (words : List (List ℕ)) → AllOf IsGoodLine (failure_line_of kind words)
@@ -301,7 +307,8 @@ good-failure_line_of kind words =
 good-message_line_of : (kind : List ℕ) (words : List (List ℕ)) → AllOf IsGoodLine (message_line_of kind words)
 good-message_line_of kind words =
     all_of-if IsGoodLine (same kind (codes "deliver")) _ _ (good-deliver_line words)
-    (all_of-if IsGoodLine (same kind (codes "back")) _ _ (good-back_line words) (good-failure_line_of kind words))
+    (all_of-if IsGoodLine (same kind (codes "back")) _ _ (good-back_line words)
+    (all_of-if IsGoodLine (same kind (codes "settle")) _ _ (good-settle_line words) (good-failure_line_of kind words)))
 
 good-source_line_of : (kind : List ℕ) (words : List (List ℕ)) → AllOf IsGoodLine (source_line_of kind words)
 good-source_line_of kind words =

@@ -24,6 +24,7 @@
 --     stop END before          stop END after
 --     calm
 --     tick MS                                          MS up to 2^63 - 1
+--     settle
 -- LIST and EVENT are all that is left of their line, spaces too, and nothing in them is percent-decoded.
 -- An empty line and one that begins with `#` do nothing. A line that isn't UTF-8 is never good.
 use Rattle.std.specs.Prelude.{◌≡◌, refl, ℕ, ◌==◌, Bool, true, false, is_some, List, [], ◌∷◌, Option, Some, None, if◌then◌else◌, codes}
@@ -44,7 +45,7 @@ use Rattle.wef_replay_values.specs.declared.end_name.EndName.{EndName}
 use Rattle.wef_replay.specs.BatchWords.{read_words, empty_batch}
 use Rattle.wef_lines.specs.Documents.{list_in, new_event_in}
 use Rattle.wef_replay.specs.declared.lines.Line.{Line}
-use Rattle.wef_replay.specs.declared.lines.Line.TheVariants.{Subscribe, SubscribeAt, End, Batch, Source, Write, WriteXml, Ask, Poll, Deliver, Back, Request, Forget, Lost, Shut, Show, Print, Status, Crash, Fail, Stop, Calm, Tick}
+use Rattle.wef_replay.specs.declared.lines.Line.TheVariants.{Subscribe, SubscribeAt, End, Batch, Source, Write, WriteXml, Ask, Poll, Deliver, Back, Request, Forget, Lost, Shut, Show, Print, Status, Crash, Fail, Stop, Calm, Tick, Settle}
 
 -- the query list of `all` and channels
 abbrev pub all_of : List (List ℕ) → QueryList
@@ -186,11 +187,16 @@ failure_line_of kind words =
     else (if same kind (codes "calm") then calm_line words
     else (if same kind (codes "tick") then option_map (λ n. Tick n) (only_number_words words) else None))))
 
--- a line of a message, a failure or the moment, by its kind and its other words
+abbrev pub settle_line : List (List ℕ) → Option Line
+settle_line [] = Some Settle
+settle_line (word ∷ words) = None
+
+-- a line of messages, a failure or the moment, by its kind and its other words
 abbrev pub message_line_of : List ℕ → List (List ℕ) → Option Line
 message_line_of kind words =
     if same kind (codes "deliver") then deliver_line words
-    else (if same kind (codes "back") then option_map (λ n. Back n) (only_number_words words) else failure_line_of kind words)
+    else (if same kind (codes "back") then option_map (λ n. Back n) (only_number_words words)
+    else (if same kind (codes "settle") then settle_line words else failure_line_of kind words))
 
 -- a line of a source, a message, a failure or the moment, by its kind and its other words
 abbrev pub source_line_of : List ℕ → List (List ℕ) → Option Line

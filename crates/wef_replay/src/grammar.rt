@@ -4,7 +4,7 @@ ghost use Rattle.std.specs.Option.{option_map};
 ghost use Rattle.std.specs.Prelude.{◌≡◌};
 ghost use Rattle.wef_base.specs.Words.{parts};
 ghost use Rattle.wef_lines.specs.Documents.{list_in};
-ghost use Rattle.wef_replay.specs.Grammar.{all_of, batch_line, batch_of_source, calm_line, collector_line_of, commit_words, crash_line, deliver_line, does_nothing, event_words, failure_line_of, fitting_event, forget_line, limit_words, line_of_words, meaning, message_line_of, only_number_words, only_source_words, only_subscription_words, other_line, pair_words, print_line, query_words, request_line, seen_words, show_line, source_line, source_line_of, subscribe_at_line, subscribe_line, write_line, write_xml_line, xml_event_words};
+ghost use Rattle.wef_replay.specs.Grammar.{all_of, batch_line, batch_of_source, calm_line, collector_line_of, commit_words, crash_line, deliver_line, does_nothing, event_words, failure_line_of, fitting_event, forget_line, limit_words, line_of_words, meaning, message_line_of, only_number_words, only_source_words, only_subscription_words, other_line, pair_words, print_line, query_words, request_line, seen_words, settle_line, show_line, source_line, source_line_of, subscribe_at_line, subscribe_line, write_line, write_xml_line, xml_event_words};
 ghost use Rattle.wef_replay.specs.Parts.{parts_behind};
 ghost use Rattle.wef_replay.specs.declared.lines.Line.TheVariants.{Ask, Back, End, Fail, Lost, Poll, Shut, Status, Stop, Tick};
 ghost use Rattle.wef_replay_values.specs.Reading.{Gives};
@@ -131,7 +131,7 @@ fn source_line_of(alloc: Global, kind: &Bytes, words: &[Bytes]) -> Result<Line, 
     message_line_of(alloc, kind, words)
 }
 
-/// A line of a message, a failure or the moment.
+/// A line of messages, a failure or the moment.
 fn message_line_of(alloc: Global, kind: &Bytes, words: &[Bytes]) -> Result<Line, LineFault>
     ensures { Gives result (message_line_of kind.now words.now) }
 {
@@ -140,6 +140,9 @@ fn message_line_of(alloc: Global, kind: &Bytes, words: &[Bytes]) -> Result<Line,
     }
     if is_word(kind, "back") {
         return back_of(words);
+    }
+    if is_word(kind, "settle") {
+        return settle_of(words);
     }
     failure_line_of(alloc, kind, words)
 }
@@ -578,6 +581,15 @@ fn calm_of(words: &[Bytes]) -> Result<Line, LineFault>
 {
     match words {
         [] => Ok(Line::Calm),
+        _ => Err(LineFault::NotUnderstood),
+    }
+}
+
+fn settle_of(words: &[Bytes]) -> Result<Line, LineFault>
+    ensures { Gives result (settle_line words.now) }
+{
+    match words {
+        [] => Ok(Line::Settle),
         _ => Err(LineFault::NotUnderstood),
     }
 }

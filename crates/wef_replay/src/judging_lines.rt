@@ -72,6 +72,7 @@ pub fn is_line(line: &Line) -> bool
         Line::Stop { end, .. } => is_end(end),
         Line::Calm => true,
         Line::Tick { milliseconds } => is_count(*milliseconds),
+        Line::Settle => true,
     }
 }
 

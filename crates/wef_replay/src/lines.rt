@@ -138,6 +138,10 @@ pub enum Line {
     Tick {
         milliseconds: u64,
     },
+
+    /// Lets all sources ask, the collector request what is due, and all sources send, each message
+    /// delivered as it is sent, until nothing is left.
+    Settle,
 }
 
 /// One call for whoever lets a line go, whatever it holds.
@@ -194,7 +198,7 @@ impl Drop for Line {
             Line::Fail { end: _, after: _ } => {}
             Line::Stop { end: _, after: _ } => {}
             Line::Tick { milliseconds: _ } => {}
-            Line::Request | Line::Forget | Line::Show | Line::Calm => {}
+            Line::Request | Line::Forget | Line::Show | Line::Calm | Line::Settle => {}
         }
     }
 }

@@ -11,7 +11,7 @@ use Rattle.wef_base.specs.declared.numbers.TheConstants.{MAX}
 use Rattle.wef_bodies.specs.declared.bodies.Body.{Body}
 use Rattle.wef_collector.specs.Asking.{next_request, waiting_of}
 use Rattle.wef_collector.specs.Boots.{boot_of, memory_begun}
-use Rattle.wef_collector.specs.Calls.{add_effect, boot_effect, end_effect}
+use Rattle.wef_collector.specs.Calls.{boot_effect}
 use Rattle.wef_collector.specs.Memories.{answered_in, drawn_in, waiting_for}
 use Rattle.wef_collector.specs.declared.asking.Request as asking
 use Rattle.wef_collector.specs.declared.memories.Memory.{Memory}
@@ -20,8 +20,6 @@ use Rattle.wef_collector_rows.specs.declared.faults.CollectorFault.TheVariants a
 use Rattle.wef_collector_leases.specs.Waiting.{first_of, has_id, pair_cmp, placed, with_waiting, without_first}
 use Rattle.wef_collector_leases.specs.declared.waiting.Waiting.{Waiting}
 use Rattle.wef_event.specs.Events.{Event}
-use Rattle.wef_event.specs.Unnumbered.{new_event}
-use Rattle.wef_eventing.specs.declared.subscriptions.Subscription.{Subscription}
 use Rattle.wef_front_source.specs.Replies.{answered_in as answered_by}
 use Rattle.wef_ids.specs.declared.FaultName.{FaultName}
 use Rattle.wef_ids.specs.declared.MessageId.{MessageId}
@@ -29,19 +27,13 @@ use Rattle.wef_keeper.specs.Calls.{Effect}
 use Rattle.wef_machine.specs.Answering.{answer_with, answers_by, with_answer}
 use Rattle.wef_machine.specs.Arming.{fate, is_done, is_stopped}
 use Rattle.wef_machine.specs.Collecting.{at_collector, collector_opened, draws, reply_id, with_call, with_opened}
-use Rattle.wef_machine.specs.Deliveries.{after_ack, after_fault, after_offers, batch_effect, beat_at, beat_effect, deliver_message, delivery_effect, end_at, events_at, message_at, number_back, offers_at, taken_by}
-use Rattle.wef_machine.specs.Leasing.{forget_at, is_short, note_at, note_effect, request_at, request_by, request_done, request_said, responds_at, response_at, response_by, response_effect, response_sent, shut_at, waiting_no_longer, with_sent}
-use Rattle.wef_machine.specs.Places.{Place, after_call, armed_with, commits, crashed, opened_by, starts}
-use Rattle.wef_machine.specs.Sources.{ask_at, at_declared, at_source, lost_at, poll_at, poll_in, write_at, write_by}
-use Rattle.wef_machine.specs.States.{Collector, Slot, State, host, slot_of, with_end, with_foreign}
-use Rattle.wef_machine.specs.Steps.{arm_step, batch_at, begun_subscription, crash_step, end_at as ended_at, step, subscribe_at, subscription_of, unchanged}
-use Rattle.wef_machine.specs.declared.arming.Armed.{Armed}
+use Rattle.wef_machine.specs.Deliveries.{after_ack, after_fault, after_offers, beat_at, beat_effect, deliver_message, delivery_effect, end_at, events_at, offers_at, taken_by}
+use Rattle.wef_machine.specs.Leasing.{is_short, note_at, note_effect, request_at, request_by, request_done, request_said, responds_at, response_at, response_by, response_effect, response_sent, shut_at, waiting_no_longer, with_sent}
+use Rattle.wef_machine.specs.Places.{Place, after_call, commits, opened_by, starts}
+use Rattle.wef_machine.specs.Sources.{ask_at, at_declared, at_source, poll_at, poll_in, write_at, write_by}
+use Rattle.wef_machine.specs.States.{Collector, Slot, State, host, slot_of, with_end}
 use Rattle.wef_machine.specs.declared.messages.Message.{Message}
 use Rattle.wef_machine.specs.declared.messages.Message.TheVariants as sent
-use Rattle.wef_replay.specs.declared.lines.Line.{Line}
-use Rattle.wef_replay.specs.declared.lines.Line.TheVariants as lines
-use Rattle.wef_replay_values.specs.declared.end_name.EndName as the_end
-use Rattle.wef_replay_values.specs.declared.end_name.EndName.TheVariants as ends
 use Rattle.wef_source.specs.Machine as machine
 use Rattle.wef_source.specs.Sessions.{has_expired, session_of}
 use Rattle.wef_building.specs.declared.sessions.Session.{Session}
@@ -91,7 +83,7 @@ answered_asks memory (Some value) asks = (asks.0, asked_without value memory.wai
 -- ---- the collector
 
 -- its calls leave what it waits for, or stop it
-called_asks : {F : Type 0} (place : Collector) (effect : Effect F) → IsAsking place.memory → IsAsking (after_call place effect).memory
+pub called_asks : {F : Type 0} (place : Collector) (effect : Effect F) → IsAsking place.memory → IsAsking (after_call place effect).memory
 called_asks place (Ok changes) asks = cond_both (is_stopped (fate place.armed changes)) None place.memory IsAsking (λ _. tt) (λ _. asks)
 called_asks place (Err fault) asks = asks
 
@@ -148,7 +140,7 @@ response_asks state id (Err fault) asks = asks
 abbrev KeepsAsking : (Memory → State → State) → Type 0
 KeepsAsking change = (now : State) (memory : Memory) → IsAsking (Some memory) → IsAsking now.collector.memory → IsAsking (change memory now).collector.memory
 
-collector_asks : (state : State) (change : Memory → State → State) → IsAsking state.collector.memory → KeepsAsking change → IsAsking (at_collector state change).collector.memory
+pub collector_asks : (state : State) (change : Memory → State → State) → IsAsking state.collector.memory → KeepsAsking change → IsAsking (at_collector state change).collector.memory
 collector_asks state change asks keeps =
     let opened : IsAsking (with_opened state).collector.memory = opened_asks state.collector asks in
     at_collector_any state change (λ (now : State). IsAsking now.collector.memory) opened (λ memory runs. keeps (with_opened state) memory (subst IsAsking runs opened) opened)
@@ -169,24 +161,24 @@ at_collector_asks lower state change Q held closed keeps =
 abbrev IsBeside : (State → Slot → machine.End → State) → Type 0
 IsBeside change = (now : State) (slot : Slot) (end : machine.End) → (change now slot end).collector ≡ now.collector
 
-source_asks : (state : State) (s : List ℕ) (change : State → Slot → machine.End → State) → IsAsking state.collector.memory → IsBeside change → IsAsking (at_source state s change).collector.memory
+pub source_asks : (state : State) (s : List ℕ) (change : State → Slot → machine.End → State) → IsAsking state.collector.memory → IsBeside change → IsAsking (at_source state s change).collector.memory
 source_asks state s change asks beside = subst (λ (c : Collector). IsAsking c.memory) (sym (at_source_beside state s change beside)) asks
 
 either_beside : (now : State) (b : Bool) (x y : State) → x.collector ≡ now.collector → y.collector ≡ now.collector → (cond b x y).collector ≡ now.collector
 either_beside now true x y first second = first
 either_beside now false x y first second = second
 
-write_beside : (s : List ℕ) (event : Event) → IsBeside (write_at s event)
+pub write_beside : (s : List ℕ) (event : Event) → IsBeside (write_at s event)
 write_beside s event now slot end = by (write_effect slot.place.rows event)
   where
     by : (effect : Effect LogFault) → (write_by now s slot event effect).collector ≡ now.collector
     by (Ok changes) = refl
     by (Err fault) = refl
 
-ask_beside : (s : List ℕ) → IsBeside (ask_at s)
+pub ask_beside : (s : List ℕ) → IsBeside (ask_at s)
 ask_beside s now slot end = either_beside now (machine.is_spent end) _ _ refl refl
 
-poll_beside : (s u : List ℕ) → IsBeside (poll_at s u)
+pub poll_beside : (s u : List ℕ) → IsBeside (poll_at s u)
 poll_beside s u now slot end = by (session_of end.sessions u)
   where
     by : (session : Option Session) → (poll_in s now slot end session).collector ≡ now.collector
@@ -206,11 +198,11 @@ responds_beside s id identifier body now slot end =
     let said = request_said identifier body now.moment end in
     sent_beside (with_end now s slot (answered_by done said)) (response_sent s id done said)
 
-shut_beside : (s : List ℕ) → IsBeside (shut_at s)
+pub shut_beside : (s : List ℕ) → IsBeside (shut_at s)
 shut_beside s now slot end = either_beside now (is_short end) _ _ refl refl
 
 -- what is done to a source's place
-declared_asks : (state : State) (s : List ℕ) (change : Place machine.End → Place machine.End) → IsAsking state.collector.memory → IsAsking (at_declared state s change (slot_of state s)).collector.memory
+pub declared_asks : (state : State) (s : List ℕ) (change : Place machine.End → Place machine.End) → IsAsking state.collector.memory → IsAsking (at_declared state s change (slot_of state s)).collector.memory
 declared_asks state s change asks = by (slot_of state s)
   where
     by : (found : Option Slot) → IsAsking (at_declared state s change found).collector.memory
@@ -234,22 +226,14 @@ taken_asks state (sent.Response s id relates answer) asks = collector_asks state
 taken_asks state (sent.Ended s note) asks = collector_asks state (note_at s note) asks (λ now memory own asks.
     answers_ask now (note_effect now.collector.rows note) false s (reply_id memory) note.id asks)
 
-delivered_asks : (state : State) (message : Option Message) → IsAsking state.collector.memory → IsAsking (deliver_message state message).collector.memory
+pub delivered_asks : (state : State) (message : Option Message) → IsAsking state.collector.memory → IsAsking (deliver_message state message).collector.memory
 delivered_asks state None asks = asks
 delivered_asks state (Some message) asks = taken_asks state message asks
 
--- ---- lines
-
-crashed_asks : (state : State) (end : the_end.EndName) → IsAsking state.collector.memory → IsAsking (crash_step state end).collector.memory
-crashed_asks state ends.Collector asks = tt
-crashed_asks state (ends.Source s) asks = declared_asks state s crashed asks
-
-armed_asks : (state : State) (end : the_end.EndName) (armed : Armed) → IsAsking state.collector.memory → IsAsking (arm_step state end armed).collector.memory
-armed_asks state ends.Collector armed asks = asks
-armed_asks state (ends.Source s) armed asks = declared_asks state s (λ place. armed_with place armed) asks
+-- ---- requests
 
 -- a request more waits for what is due
-request_asks : Lower → (state : State) → IsHeld state → IsAsking (at_collector state request_at).collector.memory
+pub request_asks : Lower → (state : State) → IsHeld state → IsAsking (at_collector state request_at).collector.memory
 request_asks lower state held =
     at_collector_asks lower state request_at (λ (after : State). IsAsking after.collector.memory) held (opened_asks state.collector held.asking) (λ memory kept asks.
     by memory asks (next_request now.collector.rows memory.waiting memory.ids host now.moment)
@@ -261,32 +245,3 @@ request_asks lower state held =
     by : (memory : Memory) → IsAsking (Some memory) → (o : Option asking.Request) → IfSome o (λ r. IsAsked (waiting_of r)) → IsAsking (request_by (with_opened state) memory o).collector.memory
     by memory asks None is = opened_asks state.collector held.asking
     by memory asks (Some r) is = (asks.0, asked_with memory.waiting (waiting_of r) is asks.1)
-
-pub line_asks : Lower → (state : State) (line : Line) → IsHeld state → IsAsking (step line state).collector.memory
-line_asks lower state (lines.Subscribe u items bytes beat query) held =
-    collector_asks state (λ memory. subscribe_at (subscription_of u items bytes beat query)) held.asking (λ now memory own asks. called_asks now.collector (add_effect now.collector.rows (subscription_of u items bytes beat query)) asks)
-line_asks lower state (lines.SubscribeAt u s items bytes beat expires query) held =
-    let about : Subscription = begun_subscription u s items bytes beat expires query in
-    collector_asks state (λ memory. subscribe_at about) held.asking (λ now memory own asks. called_asks now.collector (add_effect now.collector.rows about) asks)
-line_asks lower state (lines.End u) held = collector_asks state (λ memory. ended_at u) held.asking (λ now memory own asks. called_asks now.collector (end_effect now.collector.rows u) asks)
-line_asks lower state (lines.Batch u s b) held =
-    collector_asks (with_foreign state s) (λ memory. batch_at u s b) held.asking (λ now memory own asks. called_asks now.collector (batch_effect now.collector.rows u s b now.moment) asks)
-line_asks lower state (lines.Source s capacity) held = held.asking
-line_asks lower state (lines.Write s plain) held = source_asks state s (write_at s (new_event plain)) held.asking (write_beside s (new_event plain))
-line_asks lower state (lines.WriteXml s event) held = source_asks state s (write_at s event) held.asking (write_beside s event)
-line_asks lower state (lines.Ask s) held = source_asks state s (ask_at s) held.asking (ask_beside s)
-line_asks lower state (lines.Poll s u) held = source_asks state s (poll_at s u) held.asking (poll_beside s u)
-line_asks lower state (lines.Deliver k seen) held = delivered_asks state (message_at state k) held.asking
-line_asks lower state (lines.Back n) held = delivered_asks state (message_at state (number_back state n)) held.asking
-line_asks lower state lines.Request held = request_asks lower state held
-line_asks lower state lines.Forget held = collector_asks state forget_at held.asking (λ now memory own asks. (own.0, tt))
-line_asks lower state (lines.Lost s u) held = source_asks state s (lost_at s u) held.asking (λ now slot end. refl)
-line_asks lower state (lines.Shut s) held = source_asks state s (shut_at s) held.asking (shut_beside s)
-line_asks lower state (lines.Crash end) held = crashed_asks state end held.asking
-line_asks lower state (lines.Fail end after) held = armed_asks state end (record { after = after; stops = false }) held.asking
-line_asks lower state (lines.Stop end after) held = armed_asks state end (record { after = after; stops = true }) held.asking
-line_asks lower state lines.Calm held = held.asking
-line_asks lower state lines.Show held = collector_asks state (λ memory. unchanged) held.asking (λ now memory own asks. asks)
-line_asks lower state (lines.Print u s c) held = collector_asks state (λ memory. unchanged) held.asking (λ now memory own asks. asks)
-line_asks lower state (lines.Status u) held = collector_asks state (λ memory. unchanged) held.asking (λ now memory own asks. asks)
-line_asks lower state (lines.Tick milliseconds) held = held.asking

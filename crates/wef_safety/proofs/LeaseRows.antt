@@ -1,22 +1,31 @@
 -- What changes where leases begin, go on and end lets what is kept stay so.
-use Rattle.std.proofs.Common.{◌≡◌, ℕ, ◌≤◌, ◌&&◌, nat_le, true, List, [], ◌∷◌, ap, ◌∙◌, arith}
-use Rattle.std.proofs.lemmas.Bool.{cond_both}
+use Rattle.std.proofs.Common.{◌≡◌, ℕ, ◌≤◌, ◌&&◌, nat_le, true, List, [], ◌∷◌, ap, sym, ◌∙◌, arith}
+use Rattle.std.proofs.lemmas.Bool.{cond_both, eqb-true}
 use Rattle.std.proofs.lemmas.Bool.Decides.{nat_tests}
 use Rattle.std.proofs.lemmas.Str.{chars-encodes}
-use Rattle.std.specs.List.{AllByRecursion, list_all}
+use Rattle.std.specs.List.{AllByRecursion, filter, list_all}
 use Rattle.std.specs.Prelude.{Option, Some, None}
 use Rattle.std.specs.Str.{chars}
 use Rattle.wef_base.specs.Characters.{is_xml_char, is_xml_text}
 use Rattle.wef_base.specs.Names.{same}
 use Rattle.wef_base.specs.declared.numbers.TheConstants.{MAX}
-use Rattle.wef_collector_leases.specs.Changes.{clear_lease, delete_kept, delete_lease, delete_named, end_lease, is_lease, put_lease, put_over, replace_lease}
-use Rattle.wef_collector_leases.specs.Leases.{lease_at}
+use Rattle.wef_collector_leases.specs.Changes.{clear_lease, delete_kept, delete_lease, delete_named, deletes, end_lease, is_lease, put_lease, put_over, release_changes, replace_lease}
+use Rattle.wef_collector_leases.specs.Leases.{lease_at, lease_rows}
 use Rattle.wef_collector_leases.specs.declared.leases.Lease.{Lease}
 use Rattle.wef_collector_rows.specs.Forms.{is_formed, is_lease_row, is_source_name, is_subscription_name}
+use Rattle.wef_collector_rows.specs.Keys.{lease_key}
 use Rattle.wef_documents.proofs.TrimmedTexts.{xml_scalars}
 use Rattle.wef_front_source.specs.Sending.{IsPlainText}
 use Rattle.wef_keeper.specs.Forms.{IsPut}
-use Rattle.wef_keeper.specs.Rows.{Rows}
+use Rattle.wef_keeper.specs.Kinds.{number_of}
+use Rattle.wef_keeper.specs.Rows.{Rows, rows_after}
+use Rattle.wef_keeper.specs.Sections.{is_under}
+use Rattle.wef_keeper.specs.declared.keys.Change.{Change}
+use Rattle.wef_keeper.specs.declared.keys.Change.TheVariants.{Delete}
+use Rattle.wef_keeper.specs.declared.keys.Depth.TheVariants.{Kind}
+use Rattle.wef_keeper.specs.declared.keys.Key.{Key}
+use Rattle.wef_keeper.specs.declared.keys.Row.{Row}
+use Rattle.wef_keeper.specs.declared.kinds.RowKind.TheVariants as kinds
 use Rattle.wef_xml.specs.Good.{IsXmlText}
 use Rattle.wef_safety.proofs.Aside.{IsAsideKept}
 use Rattle.wef_safety.proofs.RowMoves.{lease_put}
@@ -77,3 +86,32 @@ ended rows u s identifier = by (lease_at rows u s)
     by : (found : Option Lease) → AllByRecursion IsAsideKept (delete_named u s identifier found)
     by None = tt
     by (Some kept) = cond_both (same kept.identifier identifier) (delete_lease u s ∷ []) [] (AllByRecursion IsAsideKept) (λ _. (delete_is u s, tt)) (λ _. tt)
+
+-- ---- all leases
+
+-- a row is that of a lease
+abbrev pub IsLeaseRow : Row → Type 0
+IsLeaseRow row = row.key.kind ≡ number_of kinds.Lease
+
+under_leases : (found : List Row) → AllByRecursion IsLeaseRow (filter (λ (row : Row). is_under Kind (lease_key [] []) row.key) found)
+under_leases [] = tt
+under_leases (row ∷ found) =
+    let rest = filter (λ (r : Row). is_under Kind (lease_key [] []) r.key) found in
+    cond_both (is_under Kind (lease_key [] []) row.key) (row ∷ rest) rest (AllByRecursion IsLeaseRow)
+    (λ own. (sym (eqb-true (number_of kinds.Lease) row.key.kind own), under_leases found)) (λ other. under_leases found)
+
+pub leases_are_rows : (rows : Rows) → AllByRecursion IsLeaseRow (lease_rows rows)
+leases_are_rows rows = under_leases (rows_after (lease_key [] []) rows)
+
+-- what holds of each deletion of such a row holds of all of them
+pub all_released : (P : Change → Type 0) → ((key : Key) → key.kind ≡ number_of kinds.Lease → P (Delete key)) → (found : List Row) → AllByRecursion IsLeaseRow found →
+    AllByRecursion P (deletes found)
+all_released P gives [] all = tt
+all_released P gives (row ∷ found) all = (gives row.key all.0, all_released P gives found all.1)
+
+row_released : (key : Key) → key.kind ≡ number_of kinds.Lease → IsAsideKept (Delete key)
+row_released key kind = record { aside = omega (arith, kind); kept = tt; formed = tt }
+
+-- all that end at once
+pub released : (rows : Rows) → AllByRecursion IsAsideKept (release_changes rows)
+released rows = all_released IsAsideKept row_released (lease_rows rows) (leases_are_rows rows)

@@ -11,7 +11,7 @@ use Rattle.wef_collector.specs.declared.responses.Leasing.{Leasing}
 use Rattle.wef_collector.specs.declared.responses.Leasing.TheVariants.{Leases, Clears, Stays}
 use Rattle.wef_collector.specs.declared.responses.Response.{Response}
 use Rattle.wef_collector.specs.declared.responses.Response.TheVariants as response
-use Rattle.wef_collector_leases.specs.Changes.{end_lease}
+use Rattle.wef_collector_leases.specs.Changes.{end_lease, release_changes}
 use Rattle.wef_collector_leases.specs.declared.leases.Wants.{Wants}
 use Rattle.wef_collector_leases.specs.declared.leases.Wants.TheVariants.{Subscribes, Renews, Unsubscribes}
 use Rattle.wef_collector_leases.specs.declared.waiting.Waiting.{Waiting}
@@ -24,15 +24,20 @@ use Rattle.wef_ids.specs.declared.MessageId.{MessageId}
 use Rattle.wef_keeper.specs.Rows.{Rows}
 use Rattle.wef_keeper.specs.declared.keys.Change.{Change}
 use Rattle.wef_machine.specs.Answering.{answers_by}
+use Rattle.wef_machine.specs.Arming.{fate}
 use Rattle.wef_machine.specs.Collecting.{reply_id}
 use Rattle.wef_machine.specs.Leasing.{ended_effect, ended_effect_by, note_at, request_at, request_by, request_message, response_at, response_by}
-use Rattle.wef_machine.specs.States.{State, host}
+use Rattle.wef_machine.specs.Places.{commits}
+use Rattle.wef_machine.specs.States.{State, host, with_collector}
+use Rattle.wef_machine.specs.Turns.{forgets_by, release_at}
+use Rattle.wef_machine.specs.declared.arming.Fate.{Fate}
+use Rattle.wef_machine.specs.declared.arming.Fate.TheVariants.{Done, Failed, Stopped}
 use Rattle.wef_source.specs.declared.messages.EndNote.{EndNote}
 use Rattle.wef_safety.specs.Kept.{IsAsked, IsAskedFor, IsKept, IsSaid}
 use Rattle.wef_safety.proofs.CollectorSteps.{answered_kept, called_kept, fault_kept}
 use Rattle.wef_safety.proofs.Aside.{IsAsideKept, changes_kept}
 use Rattle.wef_safety.proofs.DueRequests.{due_is_asked, next_has}
-use Rattle.wef_safety.proofs.LeaseRows.{HaveNames, MayStand, cleared, ended, replaced}
+use Rattle.wef_safety.proofs.LeaseRows.{HaveNames, MayStand, cleared, ended, released, replaced}
 use Rattle.wef_safety.proofs.Moves.{kept_reply}
 
 -- ---- a request
@@ -122,3 +127,16 @@ note_keeps state memory s note kept = by_names (subscription_in note.end_to) (so
     by_names None (Some r) = refused
     by_names (Some u) None = refused
     by_names (Some u) (Some r) = by_known u r (is_known (standing state.collector.rows u))
+
+-- ---- no lease stands any longer
+
+pub release_keeps : (state : State) (memory : Memory) → IsKept state → IsKept (release_at memory state)
+release_keeps state memory kept = by_fate (fate state.collector.armed (release_changes state.collector.rows))
+  where
+    after : IsKept (with_collector state (commits state.collector (release_changes state.collector.rows)))
+    after = called_kept state (release_changes state.collector.rows) kept (changes_kept state (release_changes state.collector.rows) kept (released state.collector.rows))
+
+    by_fate : (how : Fate) → IsKept (with_collector state (forgets_by how (commits state.collector (release_changes state.collector.rows))))
+    by_fate Done = after
+    by_fate Failed = after
+    by_fate Stopped = after

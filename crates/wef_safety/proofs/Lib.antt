@@ -1,6 +1,8 @@
 pub mod Aside
 pub mod Asking
+pub mod AskingLines
 pub mod CollectorSteps
+pub mod Delivering
 pub mod DueRequests
 pub mod EventTrees
 pub mod FittingNumbers
@@ -10,6 +12,7 @@ pub mod Hearing
 pub mod KeptChannels
 pub mod LeaseRows
 pub mod LeaseSteps
+pub mod Losing
 pub mod Lower
 pub mod LowerFacts
 pub mod Moves
@@ -24,6 +27,7 @@ pub mod Schedules
 pub mod Sendable
 pub mod Sent
 pub mod Sessions
+pub mod Settling
 pub mod Shutting
 pub mod SourceAddresses
 pub mod SourceSteps

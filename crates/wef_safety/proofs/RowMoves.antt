@@ -15,7 +15,7 @@ use Rattle.wef_bookmark.specs.Order.{number_at}
 use Rattle.wef_collector.proofs.Batches.{bookmark_never_falls}
 use Rattle.wef_collector.proofs.Hits.{hits, not_both, one_key, one_name, refuted, same_self}
 use Rattle.wef_collector.proofs.Moving.{bookmark_by_taking}
-use Rattle.wef_collector_leases.specs.Changes.{deletes, put_lease}
+use Rattle.wef_collector_leases.specs.Changes.{put_lease}
 use Rattle.wef_collector_leases.specs.declared.leases.Lease.{Lease}
 use Rattle.wef_collector_rows.specs.Answers.{added_rows, ended_rows, is_there}
 use Rattle.wef_collector_rows.specs.Bookmarks.{bookmark_at}
@@ -33,7 +33,6 @@ use Rattle.wef_keeper.specs.declared.keys.Cell.{Cell}
 use Rattle.wef_keeper.specs.declared.keys.Change.{Change}
 use Rattle.wef_keeper.specs.declared.keys.Change.TheVariants.{Put, Delete}
 use Rattle.wef_keeper.specs.declared.keys.Key.{Key}
-use Rattle.wef_keeper.specs.declared.keys.Row.{Row}
 use Rattle.wef_replay.specs.Good.{is_channel, is_subscription}
 use Rattle.wef_pairs.specs.Pairs.{about_of, subscription_at}
 use Rattle.wef_pairs.proofs.Spared.{IsMissed, spared}
@@ -184,10 +183,6 @@ lease_put u s lease plain = record {
   channel = λ kind. absurd (omega arith);
   lease = λ kind. plain;
 }
-
-pub all_deleted : (found : List Row) → AllByRecursion IsChangeKept (deletes found)
-all_deleted [] = tt
-all_deleted (row ∷ found) = (tt, all_deleted found)
 
 -- ---- a subscription that begins or ends
 

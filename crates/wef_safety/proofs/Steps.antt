@@ -3,7 +3,7 @@ use Rattle.std.proofs.Common.{◌≡◌, ℕ, ◌≤◌, Bool, true, false, not,
 use Rattle.std.proofs.lemmas.Option.{none-some}
 use Rattle.std.proofs.lemmas.Bool.{and_parts}
 use Rattle.std.proofs.lemmas.Bool.Decides.{nat_tests}
-use Rattle.std.specs.Prelude.{Option, Some, None, unwrap_or}
+use Rattle.std.specs.Prelude.{Option, Some, unwrap_or}
 use Rattle.std.specs.Cmp.Lexicographic.{slice_cmp}
 use Rattle.std.specs.FinMap as finite
 use Rattle.std.specs.List.{AllByRecursion}
@@ -12,7 +12,6 @@ use Rattle.std.specs.Ordering.{nat_cmp}
 use Rattle.wef_batch.specs.WellFormed.{is_in}
 use Rattle.wef_collector_rows.specs.Answers.{channels_read}
 use Rattle.wef_collector_rows.specs.Keys.{subscription_key}
-use Rattle.wef_collector.specs.Offers.{offers}
 use Rattle.wef_collector_rows.specs.Standing.{standing_of}
 use Rattle.wef_event.specs.Unnumbered.{new_event}
 use Rattle.wef_eventing.specs.declared.subscriptions.Subscription.{Subscription}
@@ -22,38 +21,34 @@ use Rattle.wef_replay_values.specs.declared.end_name.EndName.{EndName}
 use Rattle.wef_replay_values.specs.declared.end_name.EndName.TheVariants as ends
 use Rattle.wef_replay.specs.Good.{are_queries, are_limits, is_among, is_between, is_line, is_no_collector, is_source, is_subscription}
 use Rattle.wef_replay.specs.declared.lines.Line.{Line}
-use Rattle.wef_replay.specs.declared.lines.Line.TheVariants.{Subscribe, SubscribeAt, End, Batch, Source, Write, WriteXml, Ask, Poll, Deliver, Back, Request, Forget, Lost, Shut, Crash, Fail, Stop, Calm, Show, Print, Status, Tick}
+use Rattle.wef_replay.specs.declared.lines.Line.TheVariants.{Subscribe, SubscribeAt, End, Batch, Source, Write, WriteXml, Ask, Poll, Deliver, Back, Request, Forget, Lost, Shut, Crash, Fail, Stop, Calm, Show, Print, Status, Tick, Settle}
 use Rattle.wef_source_log.specs.Histories.{history}
 use Rattle.wef_source_log.specs.Keys.{boot_key}
 use Rattle.wef_source_log.specs.LogWindow.{IsWindow, boot_of}
-use Rattle.wef_machine.specs.Collecting.{reply_id, with_opened}
-use Rattle.wef_machine.specs.Deliveries.{beat_at, deliver_message, deliver_step, events_at, message_at, number_back, offers_at, taken_by}
-use Rattle.wef_machine.specs.Leasing.{forget_at, note_at, request_at, response_at}
+use Rattle.wef_machine.specs.Deliveries.{number_back}
+use Rattle.wef_machine.specs.Leasing.{forget_at, request_at}
 use Rattle.wef_pairs.specs.Pairs.{IsPairSafe, IsUntouched, about_of, settings_of, subscription_at}
 use Rattle.wef_machine.specs.Sources.{declared_slot}
-use Rattle.wef_machine.specs.States.{Slot, State, declared_names, host, slot_of, start, with_foreign, with_slot}
+use Rattle.wef_machine.specs.States.{Slot, State, declared_names, slot_of, start, with_foreign, with_slot}
 use Rattle.wef_machine.specs.Steps.{AreAdmitted, admits, arm_step, batch_at, begun_subscription, crash_step, end_at, states_from, step, subscribe_at, subscription_of, tick_step, unchanged}
 use Rattle.wef_machine.specs.declared.arming.Armed.{Armed}
-use Rattle.wef_machine.specs.declared.messages.Message.{Message}
 use Rattle.wef_machine.specs.declared.messages.Message.TheVariants as sent
 use Rattle.wef_machine.proofs.Names.{undeclared}
-use Rattle.wef_safety.specs.Kept.{IsChannelKept, IsDelivery, IsHeld, IsKept, IsOnPath, IsPairKept, WasDrawn, WhereDeclared}
+use Rattle.wef_safety.specs.Kept.{IsChannelKept, IsHeld, IsKept, IsPairKept}
 use Rattle.wef_safety.specs.Laws.{IsStateSafe, KeptIsSafe, SchedulesAreKept, SchedulesAreSafe, StartIsKept, StepsKeep, written_by}
-use Rattle.wef_safety.specs.Safe.{WasSent, Written}
-use Rattle.wef_safety.proofs.Asking.{at_collector_asks, line_asks, waiting_asked}
-use Rattle.wef_safety.proofs.CollectorSteps.{at_collector_keeps, batch_keeps, end_keeps, events_keep, foreign_kept, is_foreign, opened_kept, subscribe_keeps}
+use Rattle.wef_safety.specs.Safe.{Written}
+use Rattle.wef_safety.proofs.AskingLines.{line_asks}
+use Rattle.wef_safety.proofs.CollectorSteps.{at_collector_keeps, batch_keeps, end_keeps, foreign_kept, is_foreign, subscribe_keeps}
+use Rattle.wef_safety.proofs.Delivering.{deliver_keeps}
 use Rattle.wef_safety.proofs.GoodLines.{begun, begun_addressed, begun_again, subscription_again, names_source, sound_batch, writable, writable_xml}
-use Rattle.wef_safety.proofs.Hearing.{beat_keeps}
-use Rattle.wef_safety.proofs.LeaseSteps.{note_keeps, request_keeps, response_keeps}
+use Rattle.wef_safety.proofs.LeaseSteps.{request_keeps}
 use Rattle.wef_safety.proofs.Lower.{Lower}
-use Rattle.wef_safety.proofs.Moves.{from_mapped, kept_declared, kept_reply}
-use Rattle.wef_safety.proofs.Offerable.{host_there}
-use Rattle.wef_safety.proofs.Offering.{all_offers}
-use Rattle.wef_safety.proofs.Responding.{responds_keeps}
-use Rattle.wef_safety.proofs.Sent.{all_map, sent_by_number}
+use Rattle.wef_safety.proofs.Moves.{from_mapped, kept_declared}
+use Rattle.wef_safety.proofs.Sent.{all_map}
 use Rattle.wef_safety.proofs.SaidEvents.{no_events}
+use Rattle.wef_safety.proofs.Settling.{settling_held}
 use Rattle.wef_safety.proofs.Shutting.{shut_keeps}
-use Rattle.wef_safety.proofs.SourceSteps.{ack_keeps, arm_keeps, ask_keeps, calm_keeps, crash_keeps, fault_keeps, lost_keeps, offers_keep, poll_keeps, write_keeps}
+use Rattle.wef_safety.proofs.SourceSteps.{arm_keeps, ask_keeps, calm_keeps, crash_keeps, lost_keeps, poll_keeps, write_keeps}
 
 -- ---- a world in which nothing has happened
 
@@ -79,41 +74,6 @@ start_kept lower = record {
 
 pub start_is_kept : Lower → StartIsKept
 start_is_kept lower = record { kept = start_kept lower; asking = tt }
-
--- ---- deliveries
-
-pub of_declared : (o : Option Slot) (P : Slot → Type 0) (Q : Type 0) → WhereDeclared o P → ((slot : Slot) → o ≡ Some slot → P slot → Q) → Q
-of_declared None P Q holds gives = absurd holds
-of_declared (Some slot) P Q holds gives = gives slot refl holds
-
-taken_keeps : Lower → (state : State) (m : Message) → IsHeld state → WasSent state.messages m → IsKept (taken_by state m)
-taken_keeps lower state (sent.Ask s id) held was = at_collector_keeps lower state (offers_at s id) held.kept (λ now memory kept_now opened.
-    let was_now : WasSent now.messages (sent.Ask s id) = subst (λ (ms : List Message). WasSent ms (sent.Ask s id)) (sym opened.messages) was in
-    of_declared (slot_of now s) (λ (slot : Slot). WasDrawn slot id.value) (IsKept (offers_at s id memory now)) (kept_now.messages (sent.Ask s id) was_now) (λ slot there drawn.
-    kept_reply now (sent.Offers s (reply_id memory) id (offers now.collector.rows s host)) kept_now refl (all_offers now.collector.rows s host host_there.0 kept_now.keys (kept_now.sources s slot there).name)))
-taken_keeps lower state (sent.Offers s id relates given) held was = offers_keep lower state s relates given held.kept (held.kept.messages (sent.Offers s id relates given) was)
-taken_keeps lower state (sent.Events s delivery) held was = at_collector_keeps lower state (events_at s delivery) held.kept (λ now memory kept_now opened.
-    let was_now : WasSent now.messages (sent.Events s delivery) = subst (λ (ms : List Message). WasSent ms (sent.Events s delivery)) (sym opened.messages) was in
-    of_declared (slot_of now s) (λ (slot : Slot). IsDelivery now.collector.rows s slot delivery) (IsKept (events_at s delivery memory now)) (kept_now.messages (sent.Events s delivery) was_now)
-    (λ slot there is. events_keep lower now s slot memory delivery kept_now there was_now is))
-taken_keeps lower state (sent.Beat s beat) held was = at_collector_keeps lower state (beat_at s beat) held.kept (λ now memory kept_now opened.
-    let was_now : WasSent now.messages (sent.Beat s beat) = subst (λ (ms : List Message). WasSent ms (sent.Beat s beat)) (sym opened.messages) was in
-    of_declared (slot_of now s) (λ (slot : Slot). IsOnPath now.collector.rows s slot beat.notify_to beat.id) (IsKept (beat_at s beat memory now)) (kept_now.messages (sent.Beat s beat) was_now)
-    (λ slot there is. beat_keeps now s slot memory beat kept_now there was_now is))
-taken_keeps lower state (sent.Ack s id relates) held was = ack_keeps lower state s relates held.kept (held.kept.messages (sent.Ack s id relates) was)
-taken_keeps lower state (sent.Fault s id relates fault) held was = fault_keeps lower state s relates fault held.kept
-taken_keeps lower state (sent.Request s id identifier body) held was = responds_keeps lower state s id identifier body held.kept (held.kept.messages (sent.Request s id identifier body) was)
-taken_keeps lower state (sent.Response s id relates answer) held was =
-    at_collector_asks lower state (response_at relates answer) IsKept held (opened_kept lower state held.kept) (λ memory kept_now asks.
-    response_keeps (with_opened state) memory relates answer kept_now (held.kept.messages (sent.Response s id relates answer) was) (waiting_asked memory relates.value asks))
-taken_keeps lower state (sent.Ended s note) held was = at_collector_keeps lower state (note_at s note) held.kept (λ now memory kept_now opened. note_keeps now memory s note kept_now)
-
-deliver_keeps : Lower → (state : State) (k : ℕ) → IsHeld state → IsKept (deliver_step state k)
-deliver_keeps lower state k held = by_message (message_at state k) refl
-  where
-    by_message : (o : Option Message) → message_at state k ≡ o → IsKept (deliver_message state o)
-    by_message None e = held.kept
-    by_message (Some m) e = taken_keeps lower state m held (sent_by_number state k m e)
 
 -- ---- lines
 
@@ -211,6 +171,7 @@ line_keeps lower state Show held good = at_collector_keeps lower state (λ memor
 line_keeps lower state (Print u s c) held good = at_collector_keeps lower state (λ memory. unchanged) held.kept (λ now memory kept_now opened. kept_now)
 line_keeps lower state (Status u) held good = at_collector_keeps lower state (λ memory. unchanged) held.kept (λ now memory kept_now opened. kept_now)
 line_keeps lower state (Tick milliseconds) held good = tick_keeps state milliseconds held.kept
+line_keeps lower state Settle held good = (settling_held lower state held).kept
 
 pub steps_keep : Lower → StepsKeep
 steps_keep lower state line held good = record { kept = line_keeps lower state line held good; asking = line_asks lower state line held }

@@ -41,9 +41,9 @@ use Rattle.wef_settling.proofs.Opened.{RunsWith, collector_runs, has_opened, has
 use Rattle.wef_settling.proofs.PollTurns.{at_running}
 use Rattle.wef_settling.proofs.SessionsPut.{IsFree, IsOffered, offers_give}
 use Rattle.wef_settling.proofs.TurnsKept.{ask_later}
-use Rattle.wef_settling.specs.Measures.{waiting_in}
+use Rattle.wef_machine.specs.Measures.{waiting_in}
 use Rattle.wef_settling.specs.Settled.{IsRoomy, ids_needed, is_lent}
-use Rattle.wef_settling.specs.Turns.{ask_turn, follow, has_sent, newest}
+use Rattle.wef_machine.specs.Turns.{ask_turn, follow, has_sent, newest}
 use Rattle.wef_source.specs.Machine.{End, adopted, asked, is_spent, most_drawn, next_id}
 use Rattle.wef_source.specs.Sessions.{is_leased, session_of}
 

@@ -28,9 +28,9 @@ use Rattle.wef_settling.proofs.LaterSteps.{released_later, roomy_before}
 use Rattle.wef_settling.proofs.LeasesReleased.{lease_released}
 use Rattle.wef_settling.proofs.Opened.{all_committed, at_open, collector_runs}
 use Rattle.wef_settling.proofs.PollsGo.{goes_well, opened_calm}
-use Rattle.wef_settling.specs.Measures.{waiting_in}
+use Rattle.wef_machine.specs.Measures.{waiting_in}
 use Rattle.wef_settling.specs.Settled.{IsRoomy}
-use Rattle.wef_settling.specs.Turns.{forgets_by, lose_at, lose_each, lose_step, lost_place, release_at, release_step, released}
+use Rattle.wef_machine.specs.Turns.{forgets_by, lose_at, lose_each, lose_step, lost_place, release_at, release_step, released}
 
 -- ---- the collector gives up its leases
 

@@ -34,9 +34,9 @@ use Rattle.wef_safety.specs.Safe.{WasSent, source_of}
 use Rattle.wef_settling.proofs.ChangedSessions.{first_changed, named, twice_changed, twice_without}
 use Rattle.wef_settling.proofs.NewestMessages.{newest_none, newest_some}
 use Rattle.wef_settling.proofs.PollTurns.{IsSending, answered_turn, at_running, batch_sent, taken_at, unopened}
-use Rattle.wef_settling.specs.Turns.{verdict_by, waits_by, waits_in}
-use Rattle.wef_settling.specs.declared.verdicts.Verdict.TheVariants.{More, Enough, Ended}
-use Rattle.wef_settling.specs.declared.verdicts.Verdict.{Verdict}
+use Rattle.wef_machine.specs.Turns.{verdict_by, waits_by, waits_in}
+use Rattle.wef_machine.specs.declared.verdicts.Verdict.TheVariants.{More, Enough, Ended}
+use Rattle.wef_machine.specs.declared.verdicts.Verdict.{Verdict}
 use Rattle.wef_source.specs.Answers.{waiting_for}
 use Rattle.wef_source.specs.Machine.{End, acknowledged_in, asked, delivery_of, is_spent, is_unreachable, next_id, refused_in, sent}
 use Rattle.wef_source.specs.Sessions.{acknowledged, is_named, is_outstanding, sending, session_of, settled, waits_for, with_changed, without}

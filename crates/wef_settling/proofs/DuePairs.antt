@@ -27,7 +27,7 @@ use Rattle.wef_keeper.specs.declared.keys.Cell.{Cell}
 use Rattle.wef_safety.proofs.Offering.{reads_subscription}
 use Rattle.wef_safety.proofs.RowMoves.{AreRowsKept}
 use Rattle.wef_safety.proofs.Sent.{all_joined}
-use Rattle.wef_settling.specs.Measures.{Pair, pair_with, pairs, pairs_of}
+use Rattle.wef_machine.specs.Measures.{Pair, pair_with, pairs, pairs_of}
 use Rattle.wef_settling.specs.Settles.{IsAmong}
 use Rattle.wef_settling.proofs.Counting.{among_first, among_second}
 

@@ -31,7 +31,7 @@ use Rattle.wef_settling.proofs.DuePairs.{IsPairDue, StandsSo, all_stand_so, next
 use Rattle.wef_settling.proofs.Facts.{HasSession, IsLeased, IsLent}
 use Rattle.wef_settling.proofs.LessDue.{wish_due}
 use Rattle.wef_settling.proofs.LiveListed.{as_live, live_listed, live_name}
-use Rattle.wef_settling.specs.Measures.{Pair, pair_with, pairs, pairs_of}
+use Rattle.wef_machine.specs.Measures.{Pair, pair_with, pairs, pairs_of}
 use Rattle.wef_settling.specs.Settled.{has_name, is_lent, lists}
 use Rattle.wef_settling.specs.Settles.{IsAmong}
 

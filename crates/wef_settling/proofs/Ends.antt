@@ -3,7 +3,7 @@ use Rattle.std.proofs.Common.{ℕ, List}
 use Rattle.wef_machine.specs.States.{State}
 use Rattle.wef_safety.specs.Kept.{IsHeld}
 use Rattle.wef_settling.specs.Laws.{SettlingEnds, SettlingIsKept}
-use Rattle.wef_settling.specs.Turns.{the_steps}
+use Rattle.wef_machine.specs.Turns.{the_steps}
 use Rattle.wef_settling.proofs.Keeping.{settling_keeps}
 use Rattle.wef_settling.proofs.PollsFall.{polls_fall}
 use Rattle.wef_settling.proofs.RequestsFall.{requests_fall}

@@ -14,7 +14,7 @@ use Rattle.wef_eventing.specs.declared.subscriptions.SubKind.TheVariants.{BySour
 use Rattle.wef_eventing.specs.declared.subscriptions.Subscription.{Subscription}
 use Rattle.wef_machine.specs.States.{Slot, State, declared_names, slot_of}
 use Rattle.wef_safety.specs.Kept.{IsHeld}
-use Rattle.wef_settling.specs.Measures.{waiting_in}
+use Rattle.wef_machine.specs.Measures.{waiting_in}
 use Rattle.wef_settling.specs.Settled.{AreListedDeclared, IsPairSettled, IsRoomy, IsUnarmed, lists}
 use Rattle.wef_settling.specs.Settles.{Facts}
 use Rattle.wef_source.specs.Machine.{End}

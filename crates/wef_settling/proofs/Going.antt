@@ -56,7 +56,7 @@ use Rattle.wef_safety.specs.Kept.{IsAskedFor, IsKept}
 use Rattle.wef_safety.specs.Safe.{WasSent}
 use Rattle.wef_safety.proofs.Responding.{asked_does}
 use Rattle.wef_safety.proofs.Sent.{sent_by_number}
-use Rattle.wef_settling.specs.Turns.{forgets_by, lose_at, lose_each, lose_step, lost_all, lost_each, lost_place, newest, release_at, release_step, request_step}
+use Rattle.wef_machine.specs.Turns.{forgets_by, lose_at, lose_each, lose_step, lost_all, lost_each, lost_place, newest, release_at, release_step, request_step}
 use Rattle.wef_settling.proofs.Facts.{RunsOn}
 use Rattle.wef_settling.proofs.GoingOn.{GoesOn, answer_goes, armed_still, at_collector_goes, at_source_goes, collector_goes, commits_go, committed_later, either_goes, end_goes, goes_both, goes_itself, place_later, reply_goes, sent_goes, slot_goes}
 use Rattle.wef_settling.proofs.LaterRows.{AreLaterRows, hearing_later, leasing_later, noting_later, releasing_later, same_later, taking_later}

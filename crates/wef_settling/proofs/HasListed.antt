@@ -7,7 +7,7 @@ use Rattle.wef_collector.proofs.Hits.{one_name}
 use Rattle.wef_machine.specs.States.{Slot, State}
 use Rattle.wef_settling.proofs.Facts.{HasSession}
 use Rattle.wef_settling.specs.Settles.{IsAmong}
-use Rattle.wef_settling.specs.Turns.{sessions_at, sessions_by, sessions_in}
+use Rattle.wef_machine.specs.Turns.{sessions_at, sessions_by, sessions_in}
 use Rattle.wef_source.specs.Machine.{End}
 use Rattle.wef_source.specs.Sessions.{is_named, names_of, session_of}
 

@@ -1,10 +1,10 @@
 -- What each step of settling keeps, settling keeps; and a loop that takes turn by turn does what is stated.
 use Rattle.std.proofs.Common.{◌≡◌, ℕ, suc, ◌<◌, Bool, true, false, cond, List, [], ◌∷◌, refl, ap, ◌∙◌, arith}
-use Rattle.wef_settling.specs.Rounds.{turned}
+use Rattle.wef_machine.specs.Rounds.{turned}
 use Rattle.wef_settling.specs.Settles.{AreKeeping, SettlingKeeps, TurnsAreTaken}
-use Rattle.wef_settling.specs.Settling.{Steps, all_asked, all_served, asked, begun, is_ended, is_more, polled, polling, requested, served}
-use Rattle.wef_settling.specs.declared.verdicts.Verdict.{Verdict}
-use Rattle.wef_settling.specs.declared.verdicts.Verdict.TheVariants.{More, Enough, Ended}
+use Rattle.wef_machine.specs.Settling.{Steps, all_asked, all_served, asked, begun, is_ended, is_more, polled, polling, requested, served}
+use Rattle.wef_machine.specs.declared.verdicts.Verdict.{Verdict}
+use Rattle.wef_machine.specs.declared.verdicts.Verdict.TheVariants.{More, Enough, Ended}
 use Rattle.wef_settling.proofs.Turning.{bounds_agree, turns_keep}
 
 -- ---- what each step keeps

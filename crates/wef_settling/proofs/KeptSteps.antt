@@ -29,7 +29,8 @@ use Rattle.wef_replay.specs.declared.lines.Line.TheVariants as lines
 use Rattle.wef_safety.specs.Kept.{IsAsking, IsDelivery, IsHeld, IsKept, IsOnPath, WasDrawn, WhereDeclared}
 use Rattle.wef_safety.specs.Safe.{WasSent}
 use Rattle.wef_safety.proofs.Aside.{IsAsideKept, changes_kept}
-use Rattle.wef_safety.proofs.Asking.{at_collector_asks, line_asks, opened_held, waiting_asked}
+use Rattle.wef_safety.proofs.Asking.{at_collector_asks, opened_held, waiting_asked}
+use Rattle.wef_safety.proofs.AskingLines.{line_asks}
 use Rattle.wef_safety.proofs.CollectorSteps.{at_collector_keeps, called_kept, events_keep, opened_kept}
 use Rattle.wef_safety.proofs.Hearing.{beat_keeps}
 use Rattle.wef_safety.proofs.LeaseSteps.{note_keeps, request_keeps, response_keeps}
@@ -40,9 +41,9 @@ use Rattle.wef_safety.proofs.Offering.{all_offers}
 use Rattle.wef_safety.proofs.Responding.{responds_keeps}
 use Rattle.wef_safety.proofs.Sent.{all_map}
 use Rattle.wef_safety.proofs.SourceSteps.{ack_keeps, ask_keeps, fault_keeps, offers_keep, poll_keeps}
-use Rattle.wef_safety.proofs.Steps.{of_declared}
+use Rattle.wef_safety.proofs.Delivering.{of_declared}
 use Rattle.wef_settling.specs.Settled.{AreListedDeclared, IsDeclared}
-use Rattle.wef_settling.specs.Turns.{follow, forgets_by, lose_step, newest, release_at, release_step, released, request_step}
+use Rattle.wef_machine.specs.Turns.{follow, forgets_by, lose_step, newest, release_at, release_step, released, request_step}
 use Rattle.wef_settling.proofs.Facts.{AreLater, IsLater, IsReady}
 use Rattle.wef_settling.proofs.Going.{asked_goes, lost_goes, newest_sent, polled_goes, released_goes, requested_goes, taken_goes}
 use Rattle.wef_settling.proofs.GoingOn.{GoesOn, goes_itself}

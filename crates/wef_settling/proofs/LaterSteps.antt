@@ -14,7 +14,7 @@ use Rattle.wef_source.specs.Machine.{End, most_drawn}
 use Rattle.wef_source_log.specs.Histories.{Histories, History, history}
 use Rattle.wef_settling.specs.Settled.{IsPassed, IsRoomy, IsSourceRoomy, ids_needed, is_lent}
 use Rattle.wef_settling.specs.Settles.{IsAmong}
-use Rattle.wef_settling.specs.Turns.{follow, lose_step, release_step, request_step}
+use Rattle.wef_machine.specs.Turns.{follow, lose_step, release_step, request_step}
 use Rattle.wef_settling.proofs.Facts.{AreLater, IsDone, IsLater, IsLaterSlot, IsLent, IsOwn, IsReady, RunsOn}
 use Rattle.wef_settling.proofs.Going.{asked_goes, lost_goes, polled_goes, released_goes, requested_goes, taken_goes}
 use Rattle.wef_settling.proofs.KeptSteps.{followed_goes}

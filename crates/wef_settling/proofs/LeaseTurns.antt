@@ -65,10 +65,10 @@ use Rattle.wef_settling.proofs.Named.{lent_slot}
 use Rattle.wef_settling.proofs.NewestMessages.{newest_none, newest_some}
 use Rattle.wef_settling.proofs.Opened.{all_committed, at_open, collector_runs, has_still, opened_leases, opened_waiting, source_runs}
 use Rattle.wef_settling.proofs.PollsGo.{goes_well, opened_calm}
-use Rattle.wef_settling.specs.Measures.{waiting_in}
+use Rattle.wef_machine.specs.Measures.{waiting_in}
 use Rattle.wef_settling.specs.Settled.{IsRoomy, IsSourceRoomy, ids_needed, is_lent}
-use Rattle.wef_settling.specs.Turns as turns
-use Rattle.wef_settling.specs.Turns.{follow, newest, request_step, request_turn}
+use Rattle.wef_machine.specs.Turns as turns
+use Rattle.wef_machine.specs.Turns.{follow, newest, request_step, request_turn}
 use Rattle.wef_source.specs.Machine.{End, accepted, drawn_in, lease_of, most_drawn, next_id}
 use Rattle.wef_source.specs.Sessions.{has_expired, session_leased, with_session}
 

@@ -29,7 +29,7 @@ use Rattle.wef_pairs.specs.Pairs.{about_of}
 use Rattle.wef_safety.proofs.Offerable.{known_said}
 use Rattle.wef_safety.proofs.RowMoves.{AreRowsKept}
 use Rattle.wef_safety.proofs.Sent.{all_map}
-use Rattle.wef_settling.specs.Measures.{Pair, due_pairs, is_pair_due, pairs, pairs_of}
+use Rattle.wef_machine.specs.Measures.{Pair, due_pairs, is_pair_due, pairs, pairs_of}
 use Rattle.wef_settling.specs.Settles.{IsAmong}
 use Rattle.wef_settling.proofs.Counting.{Implies, counts_fall}
 use Rattle.wef_settling.proofs.DuePairs.{PairStandsSo, all_pairs}

@@ -27,11 +27,11 @@ mod Named
 mod NewestMessages
 mod Opened
 mod PollTurns
-mod PollsFall
+pub mod PollsFall
 mod PollsGo
 mod PollsSettle
 mod Requests
-mod RequestsFall
+pub mod RequestsFall
 mod Sections
 mod SessionsPut
 mod Settled

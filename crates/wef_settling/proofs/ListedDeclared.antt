@@ -1,6 +1,6 @@
 -- In every state of a good schedule each source that a subscription lists is declared: a subscription that begins lists one that is, and
 -- no line takes a source away.
-use Rattle.std.proofs.Common.{◌≡◌, ◌≢◌, ℕ, Bool, true, false, cond, List, [], ◌∷◌, refl, ap, sym, ◌∙◌, subst, arith}
+use Rattle.std.proofs.Common.{◌≡◌, ◌≢◌, ℕ, Bool, true, false, cond, List, [], ◌∷◌, refl, ap, sym, ◌∙◌, subst, arith, length}
 use Rattle.std.proofs.lemmas.Bool.{and_parts, cond_both}
 use Rattle.std.proofs.lemmas.Option.{none-some, same_Some}
 use Rattle.std.specs.FinMap as finite
@@ -34,7 +34,8 @@ use Rattle.wef_machine.specs.Collecting.{at_collector, with_call}
 use Rattle.wef_machine.specs.Deliveries.{deliver_message, message_at, number_back}
 use Rattle.wef_machine.specs.Leasing.{forget_at, is_short, shut_at, shut_step}
 use Rattle.wef_machine.specs.Places.{Place, armed_with, crashed}
-use Rattle.wef_machine.specs.Sources.{at_declared, lost_at, lost_step, slot_opened, write_at, write_by, write_step}
+use Rattle.wef_machine.specs.Sources.{ask_step, poll_step, at_declared, lost_at, lost_step, slot_opened, write_at, write_by, write_step}
+use Rattle.wef_machine.specs.Turns.{lose_step, release_step, request_step, settle_step}
 use Rattle.wef_machine.specs.States.{Collector, Slot, State, calmed_slot, declared_names, slot_of, start, with_end, with_foreign, with_slot}
 use Rattle.wef_machine.specs.Steps.{AreAdmitted, admits, arm_step, batch_at, begun_subscription, calm_step, crash_step, end_at, states_from, step, subscribe_at, subscription_of, unchanged}
 use Rattle.wef_machine.specs.declared.arming.Armed.{Armed}
@@ -43,7 +44,7 @@ use Rattle.wef_pairs.proofs.Takes.{standing_by_adding}
 use Rattle.wef_pairs.specs.Pairs.{about_of, subscription_at}
 use Rattle.wef_replay.specs.Good.{is_among, is_line}
 use Rattle.wef_replay.specs.declared.lines.Line.{Line}
-use Rattle.wef_replay.specs.declared.lines.Line.TheVariants.{Subscribe, SubscribeAt, End, Batch, Source, Write, WriteXml, Ask, Poll, Deliver, Back, Request, Forget, Lost, Shut, Crash, Fail, Stop, Calm, Show, Print, Status, Tick}
+use Rattle.wef_replay.specs.declared.lines.Line.TheVariants.{Subscribe, SubscribeAt, End, Batch, Source, Write, WriteXml, Ask, Poll, Deliver, Back, Request, Forget, Lost, Shut, Crash, Fail, Stop, Calm, Show, Print, Status, Tick, Settle}
 use Rattle.wef_replay_values.specs.declared.end_name.EndName.{EndName}
 use Rattle.wef_replay_values.specs.declared.end_name.EndName.TheVariants as ends
 use Rattle.wef_source.specs.Machine as machine
@@ -52,6 +53,10 @@ use Rattle.wef_source_log.specs.Answers.{write_effect}
 use Rattle.wef_source_log.specs.declared.faults.LogFault.{LogFault}
 use Rattle.wef_safety.specs.Kept.{IsHeld, IsKept, WhereDeclared}
 use Rattle.wef_safety.proofs.CollectorSteps.{at_collector_any, committed_both}
+use Rattle.wef_safety.proofs.LowerFacts.{lower}
+use Rattle.wef_safety.proofs.Losing as safe_losing
+use Rattle.wef_safety.proofs.Settling as safe
+use Rattle.wef_safety.proofs.Settling.{AreStepping, settle_keeps}
 use Rattle.wef_safety.proofs.GoodLines.{begun, begun_again, subscription_again}
 use Rattle.wef_safety.proofs.Moves.{put_there}
 use Rattle.wef_safety.proofs.RowMoves.{subscription_by_adding, subscription_by_ending}
@@ -60,7 +65,7 @@ use Rattle.wef_safety.proofs.Sent.{all_map, sent_by_number}
 use Rattle.wef_safety.proofs.SourceSteps.{at_source_any, at_source_beside}
 use Rattle.wef_settling.specs.Laws.{ListedAreDeclared}
 use Rattle.wef_settling.specs.Settled.{AreListedDeclared, IsDeclared}
-use Rattle.wef_settling.proofs.Going.{asked_goes, batch_goes, polled_goes, requested_goes, taken_goes}
+use Rattle.wef_settling.proofs.Going.{asked_goes, batch_goes, lost_goes, polled_goes, released_goes, requested_goes, taken_goes}
 use Rattle.wef_settling.proofs.GoingOn.{GoesOn, at_collector_goes, at_source_goes, collector_goes, either_goes, end_goes, goes_itself, opened_goes, sent_goes}
 use Rattle.wef_settling.proofs.KeptSteps.{listed_later}
 use Rattle.wef_settling.proofs.LaterRows.{same_later}
@@ -232,41 +237,59 @@ named_there state s among = by (slot_of state s) (sym (among_declared state.sour
     by None is = cc
     by (Some slot) is = tt
 
-line_lists : (state : State) (line : Line) → IsKept state → admits state line ≡ true → AreListedDeclared state → AreListedDeclared (step line state)
-line_lists state (Subscribe u items bytes beat query) kept good listed =
+-- settling goes on, and so do all that it does
+settled_lists : (state : State) → IsHeld state → AreListedDeclared state → AreListedDeclared (settle_step state)
+settled_lists state held listed = (settle_keeps (λ (w : State). IsHeld w × AreListedDeclared w) lists state (held, listed)).1
+  where
+    on : (old new : State) → IsHeld new → GoesOn old new → AreListedDeclared old → IsHeld new × AreListedDeclared new
+    on old new held_now goes was = (held_now, goes_on_listing old new goes was)
+
+    lists : AreStepping (λ (w : State). IsHeld w × AreListedDeclared w)
+    lists = record {
+      releases = λ w is. on w (release_step w) (safe.released_held lower w is.0) (released_goes w) is.1;
+      loses = λ w is. on w (lose_step w) (safe_losing.lost_held w is.0) (lost_goes w) is.1;
+      asks = λ s w is. on w (ask_step w s) (safe.asked_held lower w s is.0) (asked_goes s w is.0.kept) is.1;
+      requests = λ w is. on w (request_step w) (safe.requested_held lower w is.0) (requested_goes w) is.1;
+      polls = λ s u w is. on w (poll_step w s u) (safe.polled_held lower w s u is.0) (polled_goes s u w is.0.kept) is.1;
+      delivers = λ w is. (safe.delivered_held lower w (length w.messages) is.0, delivered_lists w (length w.messages) is.0.kept is.1);
+    }
+
+line_lists : (state : State) (line : Line) → IsHeld state → admits state line ≡ true → AreListedDeclared state → AreListedDeclared (step line state)
+line_lists state (Subscribe u items bytes beat query) held good listed =
     begins_listing state (subscription_of u items bytes beat query) (subscription_again u items bytes beat query (and_parts (is_line (Subscribe u items bytes beat query)) true good).0) tt listed
-line_lists state (SubscribeAt u s items bytes beat expires query) kept good listed =
+line_lists state (SubscribeAt u s items bytes beat expires query) held good listed =
     let parts = and_parts (is_line (SubscribeAt u s items bytes beat expires query)) (is_among (declared_names state) s) good in
     begins_listing state (begun_subscription u s items bytes beat expires query) (begun_again u s items bytes beat expires query (begun u s items bytes beat expires query parts.0))
     (named_there state s parts.1, tt) listed
-line_lists state (End u) kept good listed = ends_listing state u listed
-line_lists state (Batch u s b) kept good listed = batch_lists state u s b listed
-line_lists state (Source s capacity) kept good listed = put_lists state s _ listed
-line_lists state (Write s plain) kept good listed = write_lists state s (new_event plain) listed
-line_lists state (WriteXml s event) kept good listed = write_lists state s event listed
-line_lists state (Ask s) kept good listed = goes_on_listing state (step (Ask s) state) (asked_goes s state kept) listed
-line_lists state (Poll s u) kept good listed = goes_on_listing state (step (Poll s u) state) (polled_goes s u state kept) listed
-line_lists state (Deliver k seen) kept good listed = delivered_lists state k kept listed
-line_lists state (Back n) kept good listed = delivered_lists state (number_back state n) kept listed
-line_lists state Request kept good listed = goes_on_listing state (step Request state) (requested_goes state) listed
-line_lists state Forget kept good listed = goes_on_listing state (step Forget state) (forgets_on state) listed
-line_lists state (Lost s u) kept good listed = goes_on_listing state (step (Lost s u) state) (lost_goes_on state s u kept) listed
-line_lists state (Shut s) kept good listed = goes_on_listing state (step (Shut s) state) (shut_goes_on state s kept) listed
-line_lists state (Crash end) kept good listed = crash_lists state end listed
-line_lists state (Fail end after) kept good listed = arm_lists state end (record { after = after; stops = false }) listed
-line_lists state (Stop end after) kept good listed = arm_lists state end (record { after = after; stops = true }) listed
-line_lists state Calm kept good listed = calm_lists state listed
-line_lists state Show kept good listed = goes_on_listing state (step Show state) (looks_on state) listed
-line_lists state (Print u s c) kept good listed = goes_on_listing state (step (Print u s c) state) (looks_on state) listed
-line_lists state (Status u) kept good listed = goes_on_listing state (step (Status u) state) (looks_on state) listed
-line_lists state (Tick milliseconds) kept good listed = listed
+line_lists state (End u) held good listed = ends_listing state u listed
+line_lists state (Batch u s b) held good listed = batch_lists state u s b listed
+line_lists state (Source s capacity) held good listed = put_lists state s _ listed
+line_lists state (Write s plain) held good listed = write_lists state s (new_event plain) listed
+line_lists state (WriteXml s event) held good listed = write_lists state s event listed
+line_lists state (Ask s) held good listed = goes_on_listing state (step (Ask s) state) (asked_goes s state held.kept) listed
+line_lists state (Poll s u) held good listed = goes_on_listing state (step (Poll s u) state) (polled_goes s u state held.kept) listed
+line_lists state (Deliver k seen) held good listed = delivered_lists state k held.kept listed
+line_lists state (Back n) held good listed = delivered_lists state (number_back state n) held.kept listed
+line_lists state Request held good listed = goes_on_listing state (step Request state) (requested_goes state) listed
+line_lists state Forget held good listed = goes_on_listing state (step Forget state) (forgets_on state) listed
+line_lists state (Lost s u) held good listed = goes_on_listing state (step (Lost s u) state) (lost_goes_on state s u held.kept) listed
+line_lists state (Shut s) held good listed = goes_on_listing state (step (Shut s) state) (shut_goes_on state s held.kept) listed
+line_lists state (Crash end) held good listed = crash_lists state end listed
+line_lists state (Fail end after) held good listed = arm_lists state end (record { after = after; stops = false }) listed
+line_lists state (Stop end after) held good listed = arm_lists state end (record { after = after; stops = true }) listed
+line_lists state Calm held good listed = calm_lists state listed
+line_lists state Show held good listed = goes_on_listing state (step Show state) (looks_on state) listed
+line_lists state (Print u s c) held good listed = goes_on_listing state (step (Print u s c) state) (looks_on state) listed
+line_lists state (Status u) held good listed = goes_on_listing state (step (Status u) state) (looks_on state) listed
+line_lists state (Tick milliseconds) held good listed = listed
+line_lists state Settle held good listed = settled_lists state held listed
 
 -- ---- schedules
 
 all_list : (state : State) (lines : List Line) → IsHeld state → AreListedDeclared state → AreAdmitted state lines → AllByRecursion AreListedDeclared (states_from state lines)
 all_list state [] held listed admitted = (listed, tt)
 all_list state (line ∷ lines) held listed admitted =
-    (listed, all_list (step line state) lines (steps_keep state line held admitted.0) (line_lists state line held.kept admitted.0 listed) admitted.1)
+    (listed, all_list (step line state) lines (steps_keep state line held admitted.0) (line_lists state line held admitted.0 listed) admitted.1)
 
 -- in a world in which nothing has happened there is no subscription
 start_lists : AreListedDeclared start

@@ -13,7 +13,7 @@ use Rattle.wef_source.specs.Sessions.{is_named, names_of, settled}
 use Rattle.wef_safety.specs.Kept.{IsAsking, IsHeld, IsKept, IsServed}
 use Rattle.wef_safety.proofs.Sessions.{all_changed, settled_served}
 use Rattle.wef_safety.proofs.SourceSteps.{crash_keeps, kept_end, running_is}
-use Rattle.wef_settling.specs.Turns.{lose_at, lose_each, lose_step, lost_all, lost_each, lost_place}
+use Rattle.wef_machine.specs.Turns.{lose_at, lose_each, lose_step, lost_all, lost_each, lost_place}
 
 -- What is so of a source that waits for less: it is of the same start, and drew as many ids; its sessions are in order, and each is
 -- served.

@@ -4,7 +4,7 @@ use Rattle.std.specs.Prelude.{Option, Some, None, slice_get}
 use Rattle.wef_building.proofs.Cases.{eq_itself, eq_refused}
 use Rattle.wef_machine.specs.States.{State}
 use Rattle.wef_machine.specs.declared.messages.Message.{Message}
-use Rattle.wef_settling.specs.Turns.{newest}
+use Rattle.wef_machine.specs.Turns.{newest}
 
 abbrev unless : Bool → Option Message → Option Message
 unless t o = cond t None o

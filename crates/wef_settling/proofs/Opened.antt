@@ -32,7 +32,7 @@ use Rattle.wef_safety.proofs.Moves.{put_there}
 use Rattle.wef_settling.proofs.Facts.{HasSession}
 use Rattle.wef_settling.proofs.PollTurns.{unopened}
 use Rattle.wef_settling.proofs.PollsGo.{goes_well}
-use Rattle.wef_settling.specs.Measures.{waiting_in}
+use Rattle.wef_machine.specs.Measures.{waiting_in}
 use Rattle.wef_settling.specs.Settled.{IsSourceRoomy}
 use Rattle.wef_source.specs.Machine.{End, most_drawn, start_of}
 use Rattle.wef_source.specs.Sessions as sessions

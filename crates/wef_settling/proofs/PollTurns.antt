@@ -18,9 +18,9 @@ use Rattle.wef_machine.specs.States.{Slot, State, slot_of, slot_with, with_end, 
 use Rattle.wef_machine.specs.declared.messages.Message.TheVariants.{Beat, Events}
 use Rattle.wef_machine.specs.declared.messages.Message.{Message}
 use Rattle.wef_settling.proofs.NewestMessages.{newest_none, newest_some}
-use Rattle.wef_settling.specs.Turns.{follow, is_stuck, is_stuck_by, newest, poll_turn, polled_by, verdict_by}
-use Rattle.wef_settling.specs.declared.verdicts.Verdict.TheVariants.{Enough, Ended}
-use Rattle.wef_settling.specs.declared.verdicts.Verdict.{Verdict}
+use Rattle.wef_machine.specs.Turns.{follow, is_stuck, is_stuck_by, newest, poll_turn, polled_by, verdict_by}
+use Rattle.wef_machine.specs.declared.verdicts.Verdict.TheVariants.{Enough, Ended}
+use Rattle.wef_machine.specs.declared.verdicts.Verdict.{Verdict}
 use Rattle.wef_source.specs.Machine.{End, beat_of, beaten, delivery_of, has_caught_up, is_idle, is_spent, sent, start_of}
 use Rattle.wef_source.specs.Sessions.{has_expired, session_of}
 use Rattle.wef_source.specs.declared.messages.Delivery.{Delivery}

@@ -19,10 +19,10 @@ use Rattle.wef_settling.proofs.Batches.{MovesOn, built_moves, built_within}
 use Rattle.wef_settling.proofs.BatchTurns.{moved_end, moved_on, moved_world, sent_any}
 use Rattle.wef_settling.proofs.ChangedSessions.{named, own_changed}
 use Rattle.wef_settling.proofs.PollTurns.{IsSending, batch_sent, poll_turn_any, verdict_of}
-use Rattle.wef_settling.specs.Measures.{lag_by, lag_in, lag_of, lag_where_runs, session_lag}
-use Rattle.wef_settling.specs.Turns.{poll_turn}
-use Rattle.wef_settling.specs.declared.verdicts.Verdict.{Verdict}
-use Rattle.wef_settling.specs.declared.verdicts.Verdict.TheVariants.{More, Enough, Ended}
+use Rattle.wef_machine.specs.Measures.{lag_by, lag_in, lag_of, lag_where_runs, session_lag}
+use Rattle.wef_machine.specs.Turns.{poll_turn}
+use Rattle.wef_machine.specs.declared.verdicts.Verdict.{Verdict}
+use Rattle.wef_machine.specs.declared.verdicts.Verdict.TheVariants.{More, Enough, Ended}
 use Rattle.wef_source.specs.Machine.{End, has_caught_up}
 use Rattle.wef_source.specs.Sessions.{is_named, session_of, with_changed}
 use Rattle.wef_source_log.specs.LogWindow.{boot_of, last_of}

@@ -39,9 +39,9 @@ use Rattle.wef_settling.proofs.GoingOn.{armed_still}
 use Rattle.wef_settling.proofs.BatchTurns.{answer_to, sent_any}
 use Rattle.wef_settling.proofs.PollTurns.{batch_sent, poll_turn_any, verdict_of}
 use Rattle.wef_settling.specs.Settled.{IsRoomy, IsUnarmed, ids_needed, is_lent}
-use Rattle.wef_settling.specs.Turns.{has_no_id, is_stuck, is_stuck_by, is_stuck_in, poll_turn}
-use Rattle.wef_settling.specs.declared.verdicts.Verdict.{Verdict}
-use Rattle.wef_settling.specs.declared.verdicts.Verdict.TheVariants.{More, Enough, Ended}
+use Rattle.wef_machine.specs.Turns.{has_no_id, is_stuck, is_stuck_by, is_stuck_in, poll_turn}
+use Rattle.wef_machine.specs.declared.verdicts.Verdict.{Verdict}
+use Rattle.wef_machine.specs.declared.verdicts.Verdict.TheVariants.{More, Enough, Ended}
 use Rattle.wef_source.specs.Machine.{End, delivery_of, is_idle, is_spent, most_drawn, start_of}
 use Rattle.wef_source.specs.Sessions.{has_expired, session_of}
 use Rattle.wef_source_log.specs.Answers.{is_boot_full, next_boot, start_effect}

@@ -61,9 +61,9 @@ use Rattle.wef_settling.proofs.PollTurns.{IsSending, IsSilent, batch_sent, beat_
 use Rattle.wef_settling.proofs.TurnsKept.{poll_later}
 use Rattle.wef_settling.specs.Settled.{IsPairSettled, IsPassed, IsRoomy}
 use Rattle.wef_settling.specs.Settles.{IsOwed, IsServing}
-use Rattle.wef_settling.specs.Turns.{poll_turn}
-use Rattle.wef_settling.specs.declared.verdicts.Verdict.{Verdict}
-use Rattle.wef_settling.specs.declared.verdicts.Verdict.TheVariants.{More, Enough, Ended}
+use Rattle.wef_machine.specs.Turns.{poll_turn}
+use Rattle.wef_machine.specs.declared.verdicts.Verdict.{Verdict}
+use Rattle.wef_machine.specs.declared.verdicts.Verdict.TheVariants.{More, Enough, Ended}
 use Rattle.wef_source.specs.Machine as machine
 use Rattle.wef_source.specs.Machine.{End, beaten, delivery_of, has_caught_up, is_due, is_idle, is_spent, is_unreachable, next_id, sent_to}
 use Rattle.wef_source.specs.Sessions.{has_expired, is_named, sending, session_of, with_changed, without}

@@ -41,7 +41,7 @@ use Rattle.wef_settling.proofs.PollTurns.{unopened}
 use Rattle.wef_settling.proofs.SessionsPut.{IsFree, put_free, session_put}
 use Rattle.wef_settling.proofs.TurnsKept.{request_later}
 use Rattle.wef_settling.specs.Settled.{IsRoomy, lists}
-use Rattle.wef_settling.specs.Turns.{request_turn}
+use Rattle.wef_machine.specs.Turns.{request_turn}
 use Rattle.wef_source.specs.Machine.{End}
 use Rattle.wef_source.specs.Sessions as sessions
 use Rattle.wef_source.specs.Sessions.{session_of, with_session}

@@ -69,8 +69,8 @@ use Rattle.wef_safety.proofs.CollectorSteps.{at_collector_any, boot_changes, com
 use Rattle.wef_safety.proofs.LowerFacts.{lower}
 use Rattle.wef_safety.proofs.RowMoves.{AreRowsKept}
 use Rattle.wef_safety.proofs.SourceSteps.{at_source_any}
-use Rattle.wef_settling.specs.Measures.{Pair, all_behind, due_pairs, is_behind, left_by, pairs, pairs_of, place_of, requests_left, waiting_in}
-use Rattle.wef_settling.specs.Turns.{follow, leases, leases_in, leases_where_runs, newest, request_turn}
+use Rattle.wef_machine.specs.Measures.{Pair, all_behind, due_pairs, is_behind, left_by, pairs, pairs_of, place_of, requests_left, waiting_in}
+use Rattle.wef_machine.specs.Turns.{follow, leases, leases_in, leases_where_runs, newest, request_turn}
 use Rattle.wef_settling.proofs.Counting.{count_at_most}
 use Rattle.wef_settling.proofs.DuePairs.{IsPairDue, next_is_due}
 use Rattle.wef_settling.proofs.GoingOn.{committed_later}

@@ -14,7 +14,7 @@ use Rattle.wef_safety.specs.Kept.{IsHeld}
 use Rattle.wef_settling.specs.Laws.{SchedulesSettle, SettlesIn, SettlingIsSettled}
 use Rattle.wef_settling.specs.Settled.{AreListedDeclared, IsRoomy, is_for, is_of_kind}
 use Rattle.wef_settling.specs.Settles.{AreFalling, AreSettling, IsAmong, IsOwed}
-use Rattle.wef_settling.specs.Turns.{ask_turn, settle_step, the_steps}
+use Rattle.wef_machine.specs.Turns.{ask_turn, settle_step, the_steps}
 use Rattle.wef_settling.proofs.Asks.{ask_gives, ask_goes, ask_leaves, asked_bare}
 use Rattle.wef_settling.proofs.Bares.{bare_leased, lost_bare, released_bare}
 use Rattle.wef_settling.proofs.Facts.{IsReady, the_facts}

@@ -1,10 +1,10 @@
 -- Where the steps of a world are as they have to be, settling leaves nothing of a pair that is to be served.
 use Rattle.std.proofs.Common.{◌≡◌, ℕ, zero, suc, ◌<◌, Bool, true, false, cond, List, [], ◌∷◌, inl, inr, refl, ap, sym, ◌∙◌, subst}
-use Rattle.wef_settling.specs.Rounds.{turned}
+use Rattle.wef_machine.specs.Rounds.{turned}
 use Rattle.wef_settling.specs.Settles.{AreKeeping, AreSettling, Facts, IsAmong, IsOwed, IsServing, SettlingSettles}
-use Rattle.wef_settling.specs.Settling.{Steps, all_asked, all_served, and_also, asked, begun, is_ended, is_more, polled, polling, requested, served, settle}
-use Rattle.wef_settling.specs.declared.verdicts.Verdict.{Verdict}
-use Rattle.wef_settling.specs.declared.verdicts.Verdict.TheVariants.{More, Enough, Ended}
+use Rattle.wef_machine.specs.Settling.{Steps, all_asked, all_served, and_also, asked, begun, is_ended, is_more, polled, polling, requested, served, settle}
+use Rattle.wef_machine.specs.declared.verdicts.Verdict.{Verdict}
+use Rattle.wef_machine.specs.declared.verdicts.Verdict.TheVariants.{More, Enough, Ended}
 use Rattle.wef_settling.proofs.Keeping.{all_served_keeps, asked_keeps, begun_keeps, one_more, polls_keep, requested_keeps, served_keeps}
 use Rattle.wef_settling.proofs.Turning.{next_bound, none_left}
 

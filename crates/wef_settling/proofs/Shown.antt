@@ -20,7 +20,7 @@ use Rattle.wef_machine.specs.Places.{opened_by, starts}
 use Rattle.wef_machine.specs.States.{Collector, State}
 use Rattle.wef_machine.specs.declared.arming.Fate.{Fate}
 use Rattle.wef_machine.specs.Steps.{closed_line, show_text, states, step, unchanged}
-use Rattle.wef_settling.specs.Turns.{settle_step, the_steps}
+use Rattle.wef_machine.specs.Turns.{settle_step, the_steps}
 use Rattle.wef_pairs.specs.Pairs.{about_of}
 use Rattle.wef_replay.specs.declared.lines.Line.TheVariants.{Show}
 use Rattle.wef_safety.proofs.CollectorSteps.{boot_changes}

@@ -1,7 +1,7 @@
 -- A loop whose turns leave less to be done ends with a turn that doesn't go on, however many there may be; and what each turn keeps,
 -- the loop keeps.
 use Rattle.std.proofs.Common.{◌≡◌, ℕ, zero, suc, ◌<◌, Bool, true, false, cond, refl, arith}
-use Rattle.wef_settling.specs.Rounds.{BoundsAgree, HasStopped, Turn, TurnsStop, turned}
+use Rattle.wef_machine.specs.Rounds.{BoundsAgree, HasStopped, Turn, TurnsStop, turned}
 
 pub none_left : (n : ℕ) → n < 0 → ⊥
 none_left n less = omega arith

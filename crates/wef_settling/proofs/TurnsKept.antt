@@ -7,7 +7,7 @@ use Rattle.wef_machine.specs.declared.messages.Message.{Message}
 use Rattle.wef_machine.specs.declared.messages.Message.TheVariants as sent
 use Rattle.wef_safety.specs.Kept.{IsHeld}
 use Rattle.wef_settling.specs.Settles.{AreKeeping}
-use Rattle.wef_settling.specs.Turns.{ask_turn, follow, newest, poll_turn, polled_by, request_step, request_turn, the_steps}
+use Rattle.wef_machine.specs.Turns.{ask_turn, follow, newest, poll_turn, polled_by, request_step, request_turn, the_steps}
 use Rattle.wef_settling.proofs.Facts.{IsLater, IsReady}
 use Rattle.wef_settling.proofs.KeptSteps.{asked_held, asked_ready, followed_held, followed_ready, lost_ready, polled_held, polled_ready, released_held, released_ready, requested_held, requested_ready}
 use Rattle.wef_settling.proofs.Losing.{lost_held}

@@ -15,7 +15,7 @@ use Rattle.wef_collector_leases.specs.Waiting.{first_of, has_id, is_of, is_waiti
 use Rattle.wef_collector_leases.specs.declared.waiting.Waiting.{Waiting}
 use Rattle.wef_keeper.specs.Rows.{Rows}
 use Rattle.wef_machine.proofs.Names.{either_false}
-use Rattle.wef_settling.specs.Measures.{Pair, all_behind, is_behind, pairs, pairs_behind, place_of}
+use Rattle.wef_machine.specs.Measures.{Pair, all_behind, is_behind, pairs, pairs_behind, place_of}
 use Rattle.wef_settling.specs.Settles.{IsAmong}
 use Rattle.wef_settling.proofs.Counting.{Implies, counts_fall}
 

@@ -9,7 +9,7 @@ use Rattle.wef_safety.specs.Laws.{IsStateSafe}
 use Rattle.wef_settling.specs.Complete.{IsComplete, ShowsAll}
 use Rattle.wef_settling.specs.Settled.{AreListedDeclared, IsRoomy, IsSettled, IsUnarmed}
 use Rattle.wef_settling.specs.Settles.{AreFalling}
-use Rattle.wef_settling.specs.Turns.{settle_step, the_steps}
+use Rattle.wef_machine.specs.Turns.{settle_step, the_steps}
 
 -- Settling keeps all that a step keeps.
 abbrev pub SettlingIsKept : Type 0

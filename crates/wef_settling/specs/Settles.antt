@@ -1,7 +1,7 @@
 -- When settling leaves nothing to be done, over any world: what its steps have to be for that.
 use Rattle.std.specs.Prelude.{◌≡◌, ◌<◌, true, false, List, [], ◌∷◌, ◌⊎◌}
-use Rattle.wef_settling.specs.Settling.{Steps, is_more, polled, requested, settle}
-use Rattle.wef_settling.specs.declared.verdicts.Verdict.TheVariants.{More, Enough, Ended}
+use Rattle.wef_machine.specs.Settling.{Steps, is_more, polled, requested, settle}
+use Rattle.wef_machine.specs.declared.verdicts.Verdict.TheVariants.{More, Enough, Ended}
 
 abbrev pub IsAmong : {N : Type 0} → N → List N → Type 0
 IsAmong n [] = ⊥

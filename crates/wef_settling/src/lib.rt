@@ -2,6 +2,3 @@
 #![tactic(auto)]
 
 pub mod laws;
-pub mod verdicts;
-
-pub use verdicts::Verdict;

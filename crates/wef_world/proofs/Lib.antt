@@ -1,6 +1,13 @@
 pub mod AtCollector
+pub mod Counting
 pub mod Delivered
+pub mod Exchanged
 pub mod Kept
+pub mod Moved
+pub mod Moves
+pub mod NewestMessages
 pub mod Ready
 pub mod Requested
+pub mod Settled
+pub mod Turning
 pub mod Used

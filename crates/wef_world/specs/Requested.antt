@@ -1,4 +1,5 @@
 -- What becomes of a request that the collector has for a source, and of what it waits for.
+use Rattle.std.specs.Option.{option_map}
 use Rattle.std.specs.Prelude.{◌≡◌, ℕ, List, [], Option, Some, None, codes}
 use Rattle.wef_collector.specs.Asking.{CanBeRequested}
 use Rattle.wef_collector.specs.declared.asking.Request.{Request}
@@ -22,6 +23,11 @@ abbrev pub requested_line : ℕ → Used (Option Request) → List ℕ
 requested_line n (Closed how) = closed_line how
 requested_line n (Answered None) = name_line (codes "nothing") collector_name
 requested_line n (Answered (Some r)) = sent_line n (request_word r.body) r.source.name r.sub
+
+-- its number, where it is sent
+abbrev pub requested_number : ℕ → Used (Option Request) → Option ℕ
+requested_number n (Closed how) = None
+requested_number n (Answered due) = option_map (λ (r : Request). n) due
 
 -- A request that can be sent: it can be written and read again, and goes to where a source of that name is found.
 pub record CanBeSent (r : Request) : Type 0 where

@@ -1,7 +1,7 @@
 //! Deliveries of messages.
 
 ghost use Rattle.std.specs.Option.{option_copied};
-ghost use Rattle.std.specs.Prelude.{◌≡◌, ◌-◌, ◌==◌, slice_get, None, if◌then◌else◌, IfOk, OnOk};
+ghost use Rattle.std.specs.Prelude.{◌≡◌, ◌-◌, ◌==◌, false, slice_get, None, if◌then◌else◌, IfOk, OnOk};
 ghost use Rattle.wef_machine.specs.Deliveries as steps;
 ghost use Rattle.wef_machine.specs.Leasing.{with_sent};
 ghost use Rattle.wef_machine.specs.Seen.{message_line, seen_line};
@@ -14,7 +14,7 @@ use crate::ends::Ends;
 use std::alloc::{AllocError, Global};
 use wef_base::{Bytes, Text};
 use wef_deliveries::giving::{give, give_request};
-use wef_deliveries::taken::Taken;
+use wef_deliveries::taken::{Taken, Told};
 use wef_deliveries::taking::{take_ask, take_beat, take_delivery, take_note, take_response};
 use wef_messages::messages::{Content, Sent};
 use wef_places::{Answers, WorldFault};
@@ -83,8 +83,8 @@ impl Ends {
             }
             Content::Offers(offers) => {
                 let body = offers.bytes();
-                let word = give(alloc, &mut self.sources, answers, source, body, now)?;
-                Ok(Some(unanswered(word)))
+                let told = give(alloc, &mut self.sources, answers, source, body, now)?;
+                Ok(Some(unanswered(told)))
             }
             Content::Delivery(delivery) => {
                 let collector = &mut self.collector;
@@ -98,8 +98,8 @@ impl Ends {
             }
             Content::Reply(reply) => {
                 let body = reply.bytes();
-                let word = give(alloc, &mut self.sources, answers, source, body, now)?;
-                Ok(Some(unanswered(word)))
+                let told = give(alloc, &mut self.sources, answers, source, body, now)?;
+                Ok(Some(unanswered(told)))
             }
             Content::Request(request) => {
                 let sources = &mut self.sources;
@@ -108,8 +108,8 @@ impl Ends {
             }
             Content::Response(response) => {
                 let collector = &mut self.collector;
-                let word = take_response(alloc, collector, answers, response, now)?;
-                Ok(Some(unanswered(word)))
+                let told = take_response(alloc, collector, answers, response, now)?;
+                Ok(Some(unanswered(told)))
             }
             Content::Ended(note) => {
                 let collector = &mut self.collector;
@@ -122,7 +122,7 @@ impl Ends {
     /// Sends an end's answer to a message, where there is one, and answers its number with the word.
     fn send_answer(&mut self, taken: Taken) -> Result<Delivered, AllocError>
         ensures state { OnOk result (self.new ≡ with_sent self.old taken.answer) }
-        ensures delivered { IfOk result (λ delivered. delivered ≡ outcomes.delivered_by (states.next_number self.old) taken) }
+        ensures delivered { IfOk result (λ delivered. delivered ≡ outcomes.delivered_by (states.next_number self.old) false taken) }
     {
         let Taken { word, answer } = taken;
         match answer {
@@ -131,9 +131,14 @@ impl Ends {
                 Ok(Delivered {
                     word,
                     answer: Some(number),
+                    moves: false,
                 })
             }
-            None => Ok(unanswered(word)),
+            None => Ok(Delivered {
+                word,
+                answer: None,
+                moves: false,
+            }),
         }
     }
 }
@@ -145,13 +150,20 @@ pub(crate) struct Delivered {
     pub(crate) word: Text,
     /// The number of the answer, where one was sent.
     pub(crate) answer: Option<u64>,
+    /// Whether a session goes on by it, or a lease stands.
+    pub(crate) moves: bool,
 }
 
-/// What became of a message that its end doesn't answer, by the word for it.
-fn unanswered(word: Text) -> Delivered
-    ensures { result ≡ record { word = word; answer = None } }
+/// What became of a message that its end doesn't answer.
+fn unanswered(told: Told) -> Delivered
+    ensures { result ≡ record { word = told.word; answer = None; moves = told.moves } }
 {
-    Delivered { word, answer: None }
+    let Told { word, moves } = told;
+    Delivered {
+        word,
+        answer: None,
+        moves,
+    }
 }
 
 /// What is printed of a delivery, by what became of the message of the number.

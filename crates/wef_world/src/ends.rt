@@ -12,7 +12,7 @@ ghost use Rattle.wef_machine.specs.States as states;
 ghost use Rattle.wef_machine.specs.States.{address_of};
 ghost use Rattle.wef_machine.specs.Steps as steps;
 ghost use Rattle.wef_places.specs.Collected as collected;
-ghost use Rattle.wef_places.specs.Counted.{counted, hears_by};
+ghost use Rattle.wef_places.specs.Counted.{calls_after};
 ghost use Rattle.wef_places.specs.Made as made;
 ghost use Rattle.wef_replay.specs.Good.{allows, has_end, is_among};
 
@@ -152,7 +152,7 @@ impl Ends {
         requires held { IsHeld self.old }
         ensures state { OnOk result (self.new ≡ steps.step line.now self.old) }
         ensures told { IfOk result (λ text. text ≡ steps.told_by line.now self.old) }
-        ensures calls { OnOk result (A.calls answers.new ≡ counted (hears_by line.now self.old) (A.calls answers.old)) }
+        ensures calls { OnOk result (A.calls answers.new ≡ calls_after line.now self.old (A.calls answers.old)) }
     {
         match line {
             Line::Subscribe {
@@ -200,6 +200,7 @@ impl Ends {
             } => self.print(sub, source, channel),
             Line::Status { sub } => self.status(sub),
             Line::Tick { milliseconds } => self.tick(*milliseconds),
+            Line::Settle => self.settle(answers),
         }
     }
 

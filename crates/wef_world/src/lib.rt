@@ -4,6 +4,7 @@
 mod deliveries;
 mod ends;
 mod requesting;
+mod settling;
 mod source_lines;
 mod world;
 

@@ -8,6 +8,8 @@ ghost use Rattle.wef_machine.specs.Printed as texts;
 ghost use Rattle.wef_machine.specs.States as states;
 ghost use Rattle.wef_machine.specs.Steps as steps;
 ghost use Rattle.wef_safety.specs.Kept.{IsHeld};
+ghost use Rattle.wef_machine.specs.Turns.{request_step};
+ghost use Rattle.wef_world.specs.Exchanged.{request_comes};
 ghost use Rattle.wef_world.specs.Requested as requests;
 
 use crate::ends::{COLLECTOR, Ends};
@@ -32,6 +34,32 @@ impl Ends {
         let host = host(alloc)?;
         let asked = collecting::ask(&mut self.collector, alloc, &host, now)?;
         self.send_requested(asked)
+    }
+
+    /// Lets the collector send the next request to a source that is due, and answers its number, where it
+    /// sent one.
+    pub(crate) fn let_request(&mut self) -> Result<Option<u64>, WorldFault>
+        requires held { IsHeld self.old }
+        ensures state { OnOk result (self.new ≡ request_step self.old) }
+        ensures sent { IfOk result (λ sent. sent ≡ request_comes self.old) }
+    {
+        let (alloc, now) = (self.alloc, self.moment);
+        let host = host(alloc)?;
+        let asked = collecting::ask(&mut self.collector, alloc, &host, now)?;
+        Ok(self.number_requested(asked)?)
+    }
+
+    /// Sends a request, where something is due, and answers its number.
+    fn number_requested(&mut self, asked: Used<Option<Request>>) -> Result<Option<u64>, AllocError>
+        requires { requests.CanBeSentAs asked }
+        ensures state { OnOk result (self.new ≡ requests.with_requested self.old asked) }
+        ensures sent { IfOk result (λ sent. sent ≡ requests.requested_number (states.next_number self.old) asked) }
+    {
+        match asked {
+            Used::Closed(_) => Ok(None),
+            Used::Answered(None) => Ok(None),
+            Used::Answered(Some(request)) => Ok(Some(self.send_request(&request)?)),
+        }
     }
 
     /// Sends a request, where something is due, and tells what became of it.

@@ -4,7 +4,7 @@ ghost use Rattle.std.specs.Prelude.{◌≡◌, ◌++◌, true, OnOk, OnErr};
 ghost use Rattle.wef_safety.specs.Kept.{IsHeld};
 ghost use Rattle.wef_machine.specs.States as states;
 ghost use Rattle.wef_machine.specs.Steps as steps;
-ghost use Rattle.wef_places.specs.Counted.{counted, hears_by};
+ghost use Rattle.wef_places.specs.Counted.{calls_after};
 
 use crate::ends::Ends;
 use std::alloc::Global;
@@ -67,7 +67,7 @@ impl Held {
         requires { steps.admits self.old line.now ≡ true }
         ensures state { OnOk result (self.new ≡ steps.step line.now self.old) }
         ensures printed { OnOk result (out.new ≡ out.old ++ steps.printed_by line.now self.old) }
-        ensures calls { OnOk result (A.calls answers.new ≡ counted (hears_by line.now self.old) (A.calls answers.old)) }
+        ensures calls { OnOk result (A.calls answers.new ≡ calls_after line.now self.old (A.calls answers.old)) }
         ensures lost { OnErr result (self.new ≡ states.start) }
         ensures err { OnErr result (out.new ≡ out.old) }
     {
@@ -98,7 +98,7 @@ fn print_line<A: Answers>(
     requires held { IsHeld ends.old }
     ensures state { OnOk result (ends.new ≡ steps.step line.now ends.old) }
     ensures printed { OnOk result (out.new ≡ out.old ++ steps.printed_by line.now ends.old) }
-    ensures calls { OnOk result (A.calls answers.new ≡ counted (hears_by line.now ends.old) (A.calls answers.old)) }
+    ensures calls { OnOk result (A.calls answers.new ≡ calls_after line.now ends.old (A.calls answers.old)) }
     ensures err { OnErr result (out.new ≡ out.old) }
 {
     let mut printed = ends.seen_by(line)?;
@@ -143,7 +143,7 @@ impl<A: Answers> World<A> {
         requires { steps.admits self.old.held line.now ≡ true }
         ensures state { OnOk result (self.new.held ≡ steps.step line.now self.old.held) }
         ensures printed { OnOk result (out.new ≡ out.old ++ steps.printed_by line.now self.old.held) }
-        ensures calls { OnOk result (A.calls self.new.answers ≡ counted (hears_by line.now self.old.held) (A.calls self.old.answers)) }
+        ensures calls { OnOk result (A.calls self.new.answers ≡ calls_after line.now self.old.held (A.calls self.old.answers)) }
         ensures lost { OnErr result (self.new.held ≡ states.start) }
         ensures err { OnErr result (out.new ≡ out.old) }
     {

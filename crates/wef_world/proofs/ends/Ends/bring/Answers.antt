@@ -1,24 +1,29 @@
-use Rattle.std.proofs.Common.{List, ℕ, ap, subst, ◌∙◌}
+use Rattle.std.proofs.Common.{Bool, false, List, ℕ, ap, subst, ◌∙◌}
 use Rattle.std.specs.Prelude.{Option, Some, None}
 use Rattle.wef_deliveries.specs.Outcomes.{request_of}
 use Rattle.wef_deliveries.specs.declared.taken.Taken.{Taken}
-use Rattle.wef_front_source.specs.HeardReplies.{Told, offers_told, told}
+use Rattle.wef_front_source.specs.HeardReplies.{Offered, Told, offers_told, told}
 use Rattle.wef_machine.specs.Deliveries.{end_at}
 use Rattle.wef_machine.specs.Leasing.{with_sent}
 use Rattle.wef_machine.specs.Sources.{at_source}
 use Rattle.wef_machine.specs.States.{Collector, Slots, State, next_number, with_collector}
 use Rattle.wef_machine.specs.declared.messages.Message.TheVariants as sent
-use Rattle.wef_places.specs.Slots.{after_told, told_word}
+use Rattle.wef_places.specs.Slots.{after_told, moves_at, told_moves, told_word}
 use Rattle.wef_requests.specs.Requests.{Requested}
 use Rattle.wef_world.proofs.AtCollector.{asked_state, beat_state, events_state, note_state, response_state}
 use Rattle.wef_world.proofs.Delivered.{delivers, delivers_as, delivers_reply, delivers_reply_as, is_at}
 use Rattle.wef_world.proofs.Kept.{ask_can_be_answered, beat_leads, delivery_leads, note_leads, request_can_be_answered}
+use Rattle.wef_world.proofs.Moved.{offers_move, response_moves}
 use Rattle.wef_world.proofs.Used.{given_state, request_state}
 use Rattle.wef_world.proofs.ends.Ends.bring.Goals as goal
 use Rattle.wef_messages.specs.Messages.{IsOf, message_of}
-use Rattle.wef_world.specs.Delivered.{delivered_by, heard_of}
+use Rattle.wef_world.specs.Delivered.{delivered_by, heard_of, taken_of}
 use Rattle.wef_world.specs.contracts.ends.Ends.{the_view}
 use Rattle.wef_world.specs.declared.deliveries.Delivered.{Delivered}
+
+-- what becomes of the bytes of an answer that tell a source this
+abbrev came : State → List ℕ → Option Told → Option Offered → Delivered
+came before s reply offered = delivered_by (next_number before) (moves_at before.sources s (told_moves reply offered before.moment)) (heard_of before s (told_word reply offered before.moment))
 
 pub take_delivery-requires-clause-leads : goal.take_delivery-requires-clause-leads
 take_delivery-requires-clause-leads g c =
@@ -49,29 +54,31 @@ returns-in_ok-send_answer-in-Ask-clause-delivered g c =
     let before : State = the_view c.self.inside in
     let source = c.parts.result.0.now in
     let found = is_at (the_view c.self.inside) c.args.number c.as_slice.ensures c.in-Some.ensures (c.parts.ensures.message ∙ ap (message_of source) c.in-Ask.is) in
-    ap Some c.in_ok-send_answer-in-Ask.ensures.delivered ∙ ap (λ (taken : Taken). Some (delivered_by (next_number before) taken)) c.in_ok-taken-in-Ask.ensures.taken
+    ap Some c.in_ok-send_answer-in-Ask.ensures.delivered ∙ ap (λ (taken : Taken). Some (delivered_by (next_number before) false taken)) c.in_ok-taken-in-Ask.ensures.taken
     ∙ delivers_as before c.args.self.now c.args.number (sent.Ask source c.in-Ask.wish.id) found c.self.view_is
 
-pub returns-in_ok-word-in-Offers-clause-state : goal.returns-in_ok-word-in-Offers-clause-state
-returns-in_ok-word-in-Offers-clause-state g c =
+pub returns-in_ok-told-in-Offers-clause-state : goal.returns-in_ok-told-in-Offers-clause-state
+returns-in_ok-told-in-Offers-clause-state g c =
     let before : State = the_view c.self.inside in
     let source = c.parts.result.0.now in
     let offered = c.in-Offers.offers in
     let found = is_at (the_view c.self.inside) c.args.number c.as_slice.ensures c.in-Some.ensures (c.parts.ensures.message ∙ ap (message_of source) c.in-Offers.is) in
-    ap (λ (sources : Slots). record before { sources = sources }) c.in_ok-word-in-Offers.ensures.sources
+    ap (λ (sources : Slots). record before { sources = sources }) c.in_ok-told-in-Offers.ensures.sources
     ∙ given_state before source (after_told (told c.bytes-body.result.now) (offers_told before.moment c.bytes-body.result.now) before.moment)
     ∙ (λ i. at_source before source (end_at source (after_told (c.bytes-body.ensures.told i) (c.bytes-body.ensures.offers before.moment i) before.moment)))
     ∙ delivers before c.args.self.now c.args.number (sent.Offers source offered.id offered.relates offered.offers) found c.self.view_is
 
-pub returns-in_ok-word-in-Offers-clause-delivered : goal.returns-in_ok-word-in-Offers-clause-delivered
-returns-in_ok-word-in-Offers-clause-delivered g c =
+pub returns-in_ok-told-in-Offers-clause-delivered : goal.returns-in_ok-told-in-Offers-clause-delivered
+returns-in_ok-told-in-Offers-clause-delivered g c =
     let before : State = the_view c.self.inside in
     let source = c.parts.result.0.now in
     let offered = c.in-Offers.offers in
     let found = is_at (the_view c.self.inside) c.args.number c.as_slice.ensures c.in-Some.ensures (c.parts.ensures.message ∙ ap (message_of source) c.in-Offers.is) in
-    let made : List ℕ → Option Delivered = λ word. Some (record { word = word; answer = None }) in
-    ap Some c.unanswered.ensures ∙ ap made c.in_ok-word-in-Offers.ensures.word
-    ∙ (λ i. Some (delivered_by (next_number before) (heard_of before source (told_word (c.bytes-body.ensures.told i) (c.bytes-body.ensures.offers before.moment i) before.moment))))
+    let bytes = c.bytes-body in
+    ap Some c.unanswered.ensures ∙ (λ i. Some (record { word = c.in_ok-told-in-Offers.ensures.word i; answer = None; moves = c.in_ok-told-in-Offers.ensures.moves i }))
+    ∙ (λ i. Some (came before source (bytes.ensures.told i) (bytes.ensures.offers before.moment i)))
+    ∙ ap (λ (moves : Bool). Some (delivered_by (next_number before) moves (heard_of before source (told_word None (Some (offered.relates, offered.offers)) before.moment))))
+    (offers_move before source offered.relates offered.offers before.moment)
     ∙ delivers_as before c.args.self.now c.args.number (sent.Offers source offered.id offered.relates offered.offers) found c.self.view_is
 
 pub returns-in_ok-send_answer-in-Delivery-clause-state : goal.returns-in_ok-send_answer-in-Delivery-clause-state
@@ -88,7 +95,7 @@ returns-in_ok-send_answer-in-Delivery-clause-delivered g c =
     let before : State = the_view c.self.inside in
     let source = c.parts.result.0.now in
     let found = is_at (the_view c.self.inside) c.args.number c.as_slice.ensures c.in-Some.ensures (c.parts.ensures.message ∙ ap (message_of source) c.in-Delivery.is) in
-    ap Some c.in_ok-send_answer-in-Delivery.ensures.delivered ∙ ap (λ (taken : Taken). Some (delivered_by (next_number before) taken)) c.in_ok-taken-in-Delivery.ensures.taken
+    ap Some c.in_ok-send_answer-in-Delivery.ensures.delivered ∙ ap (λ (taken : Taken). Some (delivered_by (next_number before) false taken)) c.in_ok-taken-in-Delivery.ensures.taken
     ∙ delivers_as before c.args.self.now c.args.number (sent.Events source c.in-Delivery.delivery) found c.self.view_is
 
 pub take_beat-requires-clause-leads : goal.take_beat-requires-clause-leads
@@ -111,30 +118,29 @@ returns-in_ok-send_answer-in-Beat-clause-delivered g c =
     let before : State = the_view c.self.inside in
     let source = c.parts.result.0.now in
     let found = is_at (the_view c.self.inside) c.args.number c.as_slice.ensures c.in-Some.ensures (c.parts.ensures.message ∙ ap (message_of source) c.in-Beat.is) in
-    ap Some c.in_ok-send_answer-in-Beat.ensures.delivered ∙ ap (λ (taken : Taken). Some (delivered_by (next_number before) taken)) c.in_ok-taken-in-Beat.ensures.taken
+    ap Some c.in_ok-send_answer-in-Beat.ensures.delivered ∙ ap (λ (taken : Taken). Some (delivered_by (next_number before) false taken)) c.in_ok-taken-in-Beat.ensures.taken
     ∙ delivers_as before c.args.self.now c.args.number (sent.Beat source c.in-Beat.beat) found c.self.view_is
 
-pub returns-in_ok-word-in-Reply-clause-state : goal.returns-in_ok-word-in-Reply-clause-state
-returns-in_ok-word-in-Reply-clause-state g c =
+pub returns-in_ok-told-in-Reply-clause-state : goal.returns-in_ok-told-in-Reply-clause-state
+returns-in_ok-told-in-Reply-clause-state g c =
     let before : State = the_view c.self.inside in
     let source = c.parts.result.0.now in
     let said = c.in-Reply.reply in
     let found = is_at (the_view c.self.inside) c.args.number c.as_slice.ensures c.in-Some.ensures (c.parts.ensures.message ∙ ap (message_of source) c.in-Reply.is) in
-    ap (λ (sources : Slots). record before { sources = sources }) c.in_ok-word-in-Reply.ensures.sources
+    ap (λ (sources : Slots). record before { sources = sources }) c.in_ok-told-in-Reply.ensures.sources
     ∙ given_state before source (after_told (told c.bytes-body-in-Reply.result.now) (offers_told before.moment c.bytes-body-in-Reply.result.now) before.moment)
     ∙ ap (λ (t : Option Told). at_source before source (end_at source (after_told t (offers_told before.moment c.bytes-body-in-Reply.result.now) before.moment))) c.bytes-body-in-Reply.ensures.told
     ∙ delivers_reply before c.args.self.now c.args.number source said.id said.relates said.reply found c.self.view_is
 
-pub returns-in_ok-word-in-Reply-clause-delivered : goal.returns-in_ok-word-in-Reply-clause-delivered
-returns-in_ok-word-in-Reply-clause-delivered g c =
+pub returns-in_ok-told-in-Reply-clause-delivered : goal.returns-in_ok-told-in-Reply-clause-delivered
+returns-in_ok-told-in-Reply-clause-delivered g c =
     let before : State = the_view c.self.inside in
     let source = c.parts.result.0.now in
     let said = c.in-Reply.reply in
     let body = c.bytes-body-in-Reply.result.now in
     let found = is_at (the_view c.self.inside) c.args.number c.as_slice.ensures c.in-Some.ensures (c.parts.ensures.message ∙ ap (message_of source) c.in-Reply.is) in
-    let made : List ℕ → Option Delivered = λ word. Some (record { word = word; answer = None }) in
-    ap Some c.unanswered-in-Reply.ensures ∙ ap made c.in_ok-word-in-Reply.ensures.word
-    ∙ ap (λ (t : Option Told). Some (delivered_by (next_number before) (heard_of before source (told_word t (offers_told before.moment body) before.moment)))) c.bytes-body-in-Reply.ensures.told
+    ap Some c.unanswered-in-Reply.ensures ∙ (λ i. Some (record { word = c.in_ok-told-in-Reply.ensures.word i; answer = None; moves = c.in_ok-told-in-Reply.ensures.moves i }))
+    ∙ ap (λ (t : Option Told). Some (came before source t (offers_told before.moment body))) c.bytes-body-in-Reply.ensures.told
     ∙ delivers_reply_as before c.args.self.now c.args.number source said.id said.relates said.reply found c.self.view_is
 
 pub give_request-requires-clause-spelt : goal.give_request-requires-clause-spelt
@@ -161,28 +167,29 @@ returns-in_ok-send_answer-in-Request-clause-delivered g c =
     let asked = c.in-Request.request in
     let found = is_at (the_view c.self.inside) c.args.number c.as_slice.ensures c.in-Some.ensures (c.parts.ensures.message ∙ ap (message_of source) c.in-Request.is) in
     let own = subst (IsOf source) c.in-Request.is c.parts.ensures.own in
-    let comes : Requested → Option Delivered = λ r. Some (delivered_by (next_number before) (request_of before.sources source r before.moment)) in
-    ap Some c.in_ok-send_answer-in-Request.ensures.delivered ∙ ap (λ (taken : Taken). Some (delivered_by (next_number before) taken)) c.in_ok-taken-in-Request.ensures.taken
+    let comes : Requested → Option Delivered = λ r. Some (delivered_by (next_number before) false (request_of before.sources source r before.moment)) in
+    ap Some c.in_ok-send_answer-in-Request.ensures.delivered ∙ ap (λ (taken : Taken). Some (delivered_by (next_number before) false taken)) c.in_ok-taken-in-Request.ensures.taken
     ∙ ap (λ (to : List ℕ). comes (record asked { to = to })) own
     ∙ delivers_as before c.args.self.now c.args.number (sent.Request source asked.id asked.identifier asked.body) found c.self.view_is
 
-pub returns-in_ok-word-in-Response-clause-state : goal.returns-in_ok-word-in-Response-clause-state
-returns-in_ok-word-in-Response-clause-state g c =
+pub returns-in_ok-told-in-Response-clause-state : goal.returns-in_ok-told-in-Response-clause-state
+returns-in_ok-told-in-Response-clause-state g c =
     let before : State = the_view c.self.inside in
     let source = c.parts.result.0.now in
     let said = c.in-Response.response in
     let found = is_at (the_view c.self.inside) c.args.number c.as_slice.ensures c.in-Some.ensures (c.parts.ensures.message ∙ ap (message_of source) c.in-Response.is) in
-    ap (λ (collector : Collector). with_collector before collector) c.in_ok-word-in-Response.ensures.collector ∙ response_state before said.relates said.answer
+    ap (λ (collector : Collector). with_collector before collector) c.in_ok-told-in-Response.ensures.collector ∙ response_state before said.relates said.answer
     ∙ delivers before c.args.self.now c.args.number (sent.Response source said.id said.relates said.answer) found c.self.view_is
 
-pub returns-in_ok-word-in-Response-clause-delivered : goal.returns-in_ok-word-in-Response-clause-delivered
-returns-in_ok-word-in-Response-clause-delivered g c =
+pub returns-in_ok-told-in-Response-clause-delivered : goal.returns-in_ok-told-in-Response-clause-delivered
+returns-in_ok-told-in-Response-clause-delivered g c =
     let before : State = the_view c.self.inside in
     let source = c.parts.result.0.now in
     let said = c.in-Response.response in
     let found = is_at (the_view c.self.inside) c.args.number c.as_slice.ensures c.in-Some.ensures (c.parts.ensures.message ∙ ap (message_of source) c.in-Response.is) in
-    let made : List ℕ → Option Delivered = λ word. Some (record { word = word; answer = None }) in
-    ap Some c.unanswered-in-Response.ensures ∙ ap made c.in_ok-word-in-Response.ensures.word ∙ delivers_as before c.args.self.now c.args.number (sent.Response source said.id said.relates said.answer) found c.self.view_is
+    ap Some c.unanswered-in-Response.ensures ∙ (λ i. Some (record { word = c.in_ok-told-in-Response.ensures.word i; answer = None; moves = c.in_ok-told-in-Response.ensures.moves i }))
+    ∙ ap (λ (moves : Bool). Some (delivered_by (next_number before) moves (taken_of before (sent.Response source said.id said.relates said.answer)))) (response_moves before said.relates said.answer)
+    ∙ delivers_as before c.args.self.now c.args.number (sent.Response source said.id said.relates said.answer) found c.self.view_is
 
 pub take_note-requires-clause-leads : goal.take_note-requires-clause-leads
 take_note-requires-clause-leads g c =
@@ -204,5 +211,5 @@ returns-in_ok-send_answer-in-Ended-clause-delivered g c =
     let before : State = the_view c.self.inside in
     let source = c.parts.result.0.now in
     let found = is_at (the_view c.self.inside) c.args.number c.as_slice.ensures c.in-Some.ensures (c.parts.ensures.message ∙ ap (message_of source) c.in-Ended.is) in
-    ap Some c.in_ok-send_answer-in-Ended.ensures.delivered ∙ ap (λ (taken : Taken). Some (delivered_by (next_number before) taken)) c.in_ok-taken-in-Ended.ensures.taken
+    ap Some c.in_ok-send_answer-in-Ended.ensures.delivered ∙ ap (λ (taken : Taken). Some (delivered_by (next_number before) false taken)) c.in_ok-taken-in-Ended.ensures.taken
     ∙ delivers_as before c.args.self.now c.args.number (sent.Ended source c.in-Ended.note) found c.self.view_is

@@ -1,8 +1,8 @@
 -- Settling, over any world: sources ask, the collector asks sources, and sources send, until nothing is left.
 use Rattle.std.specs.Prelude.{ℕ, suc, Bool, true, false, List, [], ◌∷◌, if◌then◌else◌}
-use Rattle.wef_settling.specs.Rounds.{Turn, turned}
-use Rattle.wef_settling.specs.declared.verdicts.Verdict.{Verdict}
-use Rattle.wef_settling.specs.declared.verdicts.Verdict.TheVariants.{More, Enough, Ended}
+use Rattle.wef_machine.specs.Rounds.{Turn, turned}
+use Rattle.wef_machine.specs.declared.verdicts.Verdict.{Verdict}
+use Rattle.wef_machine.specs.declared.verdicts.Verdict.TheVariants.{More, Enough, Ended}
 
 abbrev pub is_more : Verdict → Bool
 is_more More = true

@@ -1,6 +1,6 @@
 -- The steps of settling, over the ends of a schedule and the messages between them: each message is delivered as it was sent, and so is
 -- the answer to it.
-use Rattle.std.specs.Prelude.{ℕ, ◌==◌, Bool, true, false, ◌&&◌, List, [], ◌∷◌, length, is_some, Option, Some, None, if◌then◌else◌}
+use Rattle.std.specs.Prelude.{ℕ, ◌==◌, Bool, true, false, ◌&&◌, List, [], ◌∷◌, length, is_some, Option, Some, None, Ok, Err, if◌then◌else◌}
 use Rattle.std.specs.Option.{option_map}
 use Rattle.wef_collector.specs.Memories.{forgotten}
 use Rattle.wef_collector.specs.declared.memories.Memory.{Memory}
@@ -23,10 +23,10 @@ use Rattle.wef_machine.specs.declared.arming.Fate.{Fate}
 use Rattle.wef_machine.specs.declared.arming.Fate.TheVariants as fates
 use Rattle.wef_machine.specs.declared.messages.Message.{Message}
 use Rattle.wef_machine.specs.declared.messages.Message.TheVariants as sent
-use Rattle.wef_settling.specs.Measures.{lag_of, requests_left}
-use Rattle.wef_settling.specs.Settling.{Steps, settle}
-use Rattle.wef_settling.specs.declared.verdicts.Verdict.{Verdict}
-use Rattle.wef_settling.specs.declared.verdicts.Verdict.TheVariants.{More, Enough, Ended}
+use Rattle.wef_machine.specs.Measures.{lag_of, requests_left}
+use Rattle.wef_machine.specs.Settling.{Steps, settle}
+use Rattle.wef_machine.specs.declared.verdicts.Verdict.{Verdict}
+use Rattle.wef_machine.specs.declared.verdicts.Verdict.TheVariants.{More, Enough, Ended}
 
 -- ---- what was sent is delivered
 
