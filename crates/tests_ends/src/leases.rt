@@ -44,12 +44,12 @@ fn push_steps(
 }
 
 /// A word, and what stands behind it.
-pub(crate) fn cut(line: &str) -> (&str, &str) {
+pub fn cut(line: &str) -> (&str, &str) {
     line.split_once(' ').unwrap_or((line, ""))
 }
 
 /// The number that begins a line, and what stands behind it.
-pub(crate) fn cut_number(line: &str) -> (u64, &str) {
+pub fn cut_number(line: &str) -> (u64, &str) {
     let (word, rest) = cut(line);
     (word.parse().unwrap_or(0), rest)
 }

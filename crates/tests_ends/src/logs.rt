@@ -94,7 +94,7 @@ fn start(alloc: Global, keeper: &mut MemKeeper) -> Result<u64, AllocError> {
     }
 }
 
-pub(crate) fn source_name(alloc: Global) -> Result<SourceName, AllocError> {
+pub fn source_name(alloc: Global) -> Result<SourceName, AllocError> {
     match SourceName::read(&Text::from_str(alloc, "pc1")?) {
         Ok(name) => Ok(name),
         Err(_) => Err(AllocError),

@@ -59,14 +59,14 @@ fn put(
     }
 }
 
-pub(crate) fn subscription(alloc: Global, name: &str) -> Result<SubId, AllocError> {
+pub fn subscription(alloc: Global, name: &str) -> Result<SubId, AllocError> {
     match SubId::named(&Text::from_str(alloc, name)?)? {
         Some(sub) => Ok(sub),
         None => Err(AllocError),
     }
 }
 
-pub(crate) fn source(alloc: Global, name: &str) -> Result<SourceName, AllocError> {
+pub fn source(alloc: Global, name: &str) -> Result<SourceName, AllocError> {
     match SourceName::named(&Text::from_str(alloc, name)?)? {
         Some(source) => Ok(source),
         None => Err(AllocError),
@@ -74,7 +74,7 @@ pub(crate) fn source(alloc: Global, name: &str) -> Result<SourceName, AllocError
 }
 
 /// Puts the row of a subscription `NAME SECONDS SOURCES`, with a comma between two sources.
-pub(crate) fn put_subscription(
+pub fn put_subscription(
     alloc: Global,
     keeper: &mut MemKeeper,
     value: u64,
@@ -94,7 +94,7 @@ pub(crate) fn put_subscription(
     done(keeper, &changes)
 }
 
-pub(crate) fn done(keeper: &mut MemKeeper, changes: &List<Change>) -> Result<(), AllocError>
+pub fn done(keeper: &mut MemKeeper, changes: &List<Change>) -> Result<(), AllocError>
     requires { AreWithin changes.now }
 {
     match keeper.commit(changes) {

@@ -128,6 +128,7 @@ fn push_answer(shown: &mut Text, name: &str, line: &str) -> Result<bool, AllocEr
         "answers" => tests_answers::push_answer(shown, task, line),
         "runs" => tests_runs::push_answer(shown, task, line),
         "ends" => tests_ends::push_answer(shown, task, line),
+        "worlds" => tests_worlds::push_answer(shown, task, line),
         "each" => {
             push_replayed_last(shown, line)?;
             Ok(true)

@@ -1,7 +1,7 @@
 //! Ends of which a number is at its greatest.
 
+use crate::runs::push_run;
 use std::alloc::{AllocError, Global};
-use tests_runs::runs::push_run;
 use wef_base::numbers::MAX;
 use wef_base::{List, MemSink, Text};
 use wef_commands::Ending;

@@ -1,10 +1,10 @@
 //! `status` over subscriptions and sources that were heard.
 
-use crate::leases::{cut, cut_number};
-use crate::pairs::{done, put_subscription, source, subscription};
+use crate::repeats::repeated;
+use crate::runs::push_run;
 use std::alloc::{AllocError, Global};
-use tests_runs::repeats::repeated;
-use tests_runs::runs::push_run;
+use tests_ends::leases::{cut, cut_number};
+use tests_ends::pairs::{done, put_subscription, source, subscription};
 use wef_base::numbers::MAX;
 use wef_base::{List, SubId, Text};
 use wef_collector_rows::keys::heard_key;

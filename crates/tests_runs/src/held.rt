@@ -3,10 +3,10 @@
 ghost use Rattle.std.specs.Prelude.{IfOk};
 ghost use Rattle.wef_batch.specs.Numbers.{AreNumbered};
 
-use crate::logs::source_name;
+use crate::runs::push_run;
 use std::alloc::{AllocError, Global};
 use tests_collectors::collectors::{Kept, base, collector_of};
-use tests_runs::runs::push_run;
+use tests_ends::logs::source_name;
 use wef_base::numbers::MAX;
 use wef_base::{List, Moment, Text};
 use wef_batch::{Batch, Item};

@@ -1,7 +1,7 @@
 //! An event at its greatest length, for which a line would be too long.
 
+use crate::repeats::repeated;
 use std::alloc::AllocError;
-use tests_runs::repeats::repeated;
 use wef_base::Text;
 use wef_event::{EventFault, read_event};
 
