@@ -1,4 +1,4 @@
--- Runs of `write` and `forward` as deeds, by their accounts.
+-- Runs of `write`, `forward` and `serve` as deeds, by their accounts.
 use Rattle.std.proofs.Common.{◌≡◌, ◌⊎◌, inl, inr, ℕ, ◌+◌, ◌<◌, Bool, true, false, cond, List, [], ◌∷◌, ◌++◌, length, map, ap, sym, refl, subst, ◌∙◌, arith}
 use Rattle.std.specs.Prelude.{Some, None, Ok, Err, is_none}
 use Rattle.wef_building.specs.Faults.{source_answer, source_store}
@@ -21,6 +21,7 @@ use Rattle.wef_running.specs.ByRows.{ForwardSays, IsBegun}
 use Rattle.wef_safety.proofs.LowerFacts.{lower}
 use Rattle.wef_source.specs.Calls as source
 use Rattle.wef_source.specs.Machine.{End, start_of}
+use Rattle.wef_subscribing.specs.ByRows.{ServeSays}
 use Rattle.wef_source_log.proofs.Cells.{extends}
 use Rattle.wef_source_log.specs.Answers.{is_boot_full, is_full, next_boot, next_number, next_text, start_effect, write_effect}
 use Rattle.wef_source_log.specs.Faults.{log_store}
@@ -28,9 +29,11 @@ use Rattle.wef_source_log.specs.LogWindow.{IsWindow, boot_of, capacity_of, start
 use Rattle.wef_source_log.specs.declared.faults.LogFault.{LogFault}
 use Rattle.wef_source_log.specs.declared.faults.LogFault.TheVariants as faults
 use Rattle.wef_runs.proofs.Acted.{asking_acted}
+use Rattle.wef_runs.proofs.Served.{begun_acted}
 use Rattle.wef_runs.specs.Acts.{Act, AreActed}
-use Rattle.wef_deployments.specs.Folders.{AreDeeds, AreTurned, FolderRunsAreDeeds, IsAtRest, deeds_forwarded_by, deeds_stopping, deeds_written_by}
+use Rattle.wef_deployments.specs.Folders.{AreDeeds, AreTurned, FolderRunsAreDeeds, IsAtRest, deeds_forwarded_by, deeds_served_by, deeds_stopping, deeds_written_by}
 use Rattle.wef_runs.specs.Forwarded.{acts_begun}
+use Rattle.wef_runs.specs.Served.{acts_served_by}
 use Rattle.wef_deployments.specs.Sources.{SourceDeed, StartsAtMost, Turns, slot_left, slot_recorded}
 use Rattle.wef_deployments.specs.Sources.{StartsLog, StartsSource, Writes, Acts}
 
@@ -182,23 +185,34 @@ module _ (slot : Slot) (found : Rows) (at : IsAtRest slot found) where
   acts_turned rows [] end last same = ap (λ (e : End). slot_left slot rows (Some e)) same
   acts_turned rows (act ∷ acts) end last (then_on, acted, more) = (slot_left slot rows (Some then_on), (then_on, acted, refl), acts_turned rows acts then_on last more)
 
+  -- a source that was started over the rows, and acted
+  ran : (last : Rows) (acts : List Act) (end : End) → last ≡ started found LOG_CAPACITY → AreActed last acts (start_of (next_boot found)) end → AreDeeds (StartsSource ∷ map Acts acts) slot last
+  ran last acts end is acted =
+      let same : last ≡ started slot.place.rows slot.capacity = is ∙ same_started in
+      record {
+        next = slot_left slot last (Some end);
+        turned = (
+          slot_left slot last (Some (start_of (next_boot found))),
+          (at.closed, (λ i. slot_left slot (same i) (Some (start_of (next_boot (sym at.rows i)))))),
+          acts_turned last acts (start_of (next_boot found)) end acted,
+        );
+        rows = refl;
+      }
+
   module _ (ending : Ending) (out : Told) (peers : Peers) (now : Store) (last : Rows) (address s : List ℕ) (count : ℕ) where
     begun_so : (is : IsBegun address s count ending out peers.moment peers.link_before peers.link_after now found last)
         → AreDeeds (StartsSource ∷ map Acts (acts_begun ending out peers now found last address s count (inr is))) slot last
     begun_so is =
-        let first = slot_left slot last (Some (start_of (next_boot found))) in
-        let same : last ≡ started slot.place.rows slot.capacity = is.rows ∙ same_started in
-        let acted = asking_acted last peers.moment address s count ending out (record { memory = start_of (next_boot found); store = is.started; link = peers.link_before })
-        (record { memory = is.end; store = now; link = peers.link_after }) is.sends in
-        record {
-          next = slot_left slot last (Some is.end);
-          turned = (
-            first,
-            (at.closed, (λ i. slot_left slot (same i) (Some (start_of (next_boot (sym at.rows i)))))),
-            acts_turned last (acts_begun ending out peers now found last address s count (inr is)) (start_of (next_boot found)) is.end acted,
-          );
-          rows = refl;
-        }
+        ran last (acts_begun ending out peers now found last address s count (inr is)) is.end is.rows
+        (asking_acted last peers.moment address s count ending out (record { memory = start_of (next_boot found); store = is.started; link = peers.link_before })
+        (record { memory = is.end; store = now; link = peers.link_after }) is.sends)
+
+    served_so : (says : ServeSays address count ending out peers.moment peers.front_before peers.front_after peers.link_before peers.link_after now found last)
+        → AreDeeds (deeds_served_by ending out peers now found last address count says) slot last
+    served_so (inl (is, unwritten, front_same, link_same, same)) = no_more slot last (same ∙ sym at.rows)
+    served_so (inr (inl ((fault, refuses, is, unwritten, same, goes), front_same))) =
+        start_only slot found last at (source_cut last (may_leave source_store (λ rows. source.start_effect rows LOG_CAPACITY) next_boot (Err fault) found last goes))
+    served_so (inr (inr is)) = ran last (acts_served_by ending out peers now found last address count (inr (inr is))) is.end is.rows (begun_acted ending out peers now found last address count is)
 
     forwarded_so : (says : (last ≡ found) ⊎ ForwardSays address s count ending out peers.moment peers.link_before peers.link_after now found last)
         → AreDeeds (deeds_forwarded_by ending out peers now found last address s count says) slot last
@@ -212,4 +226,5 @@ folder_runs_are_deeds far = record {
   accounts = λ ending input out before now ends lawful found last stood may. record { ending = ending; input = input; out = out; goes = far ending input out before now ends lawful found last stood may };
   writes = λ found last run slot at. goes_so slot found at run.ending run.input run.out last run.goes;
   forwards = λ address s count found last account slot at. forwarded_so slot found at account.ending account.out account.peers account.now last address s count account.says;
+  serves = λ address s count found last account slot at. served_so slot found at account.ending account.out account.peers account.now last address s count account.says;
 }

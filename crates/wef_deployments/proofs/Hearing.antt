@@ -1,24 +1,39 @@
 -- What is kept of a world stays kept behind each deed of the collector, by what the lines of schedules keep.
-use Rattle.std.proofs.Common.{◌≡◌, inl, inr, ℕ, ◌+◌, ◌≤◌, Bool, true, false, cond, List, [], ◌∷◌, ◌++◌, ap, sym, refl, subst, ◌∙◌, arith, append-nil}
+use Rattle.std.proofs.Common.{◌≡◌, inl, inr, ℕ, ◌+◌, ◌≤◌, ◌==◌, Bool, true, false, cond, List, [], ◌∷◌, ◌++◌, ap, sym, refl, subst, ◌∙◌, arith, append-nil}
+use Rattle.std.proofs.lemmas.Bool.Decides.{nat_tests}
 use Rattle.std.proofs.lemmas.Option.{none-some, same_Some}
 use Rattle.std.specs.Cmp.Lexicographic.{slice_cmp}
 use Rattle.std.specs.FinMap as finite
 use Rattle.std.specs.List.{AllByRecursion}
 use Rattle.std.specs.Ordering.{nat_cmp}
-use Rattle.std.specs.Prelude.{Option, Some, None, Ok, Err, unwrap_or}
+use Rattle.std.specs.Option.{option_map}
+use Rattle.std.specs.Prelude.{IfSome, Option, Some, None, Ok, Err, unwrap_or}
 use Rattle.wef_base.specs.declared.moments.TheConstants.{LAST_MOMENT}
 use Rattle.wef_batch.specs.WellFormed.{is_in, is_well_formed}
 use Rattle.wef_batch.specs.declared.items.Batch.{Batch}
 use Rattle.wef_collector.proofs.FormedRows.{heard_row}
 use Rattle.wef_collector.proofs.Hearing.{each_heard}
+use Rattle.wef_collector.specs.Asking.{body_for, identifier_of, next_request, request_for, waiting_of, wants_by}
 use Rattle.wef_collector.specs.Boots.{boot_of, memory_begun}
 use Rattle.wef_collector.specs.Calls as calls
 use Rattle.wef_collector.specs.Calls.{add_effect, end_by, end_effect, hear_by, take_by, take_effect, unread_by}
 use Rattle.wef_collector.specs.FormsStay.{IsSoundBatch}
-use Rattle.wef_collector.specs.Offers.{offers}
+use Rattle.wef_collector.specs.Memories.{waiting_for}
+use Rattle.wef_collector.specs.Offers.{offers, subscribe_from}
+use Rattle.wef_collector.specs.Responses.{lease_changes, leasing_effect, leasing_of, waiting_effect}
 use Rattle.wef_collector.specs.Taken.{batch_changes, heard_changes, put, taken}
+use Rattle.wef_collector.specs.declared.asking.Request as asking
+use Rattle.wef_collector.specs.declared.memories.Memory.{Memory}
+use Rattle.wef_collector.specs.declared.responses.Leasing.{Leasing}
+use Rattle.wef_collector.specs.declared.responses.Response.{Response}
 use Rattle.wef_collector_leases.specs.Changes.{end_lease}
+use Rattle.wef_collector_leases.specs.Next.{next_due}
+use Rattle.wef_collector_leases.specs.declared.leases.Wants.{Wants}
+use Rattle.wef_collector_leases.specs.declared.leases.Wants.TheVariants.{Subscribes, Renews, Unsubscribes}
+use Rattle.wef_collector_leases.specs.declared.next.Due.{Due}
+use Rattle.wef_collector_leases.specs.declared.waiting.Waiting.{Waiting}
 use Rattle.wef_collector_rows.specs.Answers.{channels_read, is_known, is_there}
+use Rattle.wef_collector_rows.specs.Bookmarks.{bookmark_of}
 use Rattle.wef_collector_rows.specs.Keys.{heard_key, subscription_key}
 use Rattle.wef_collector_rows.specs.Standing.{is_full, standing}
 use Rattle.wef_collector_rows.specs.declared.faults.CollectorFault.{CollectorFault}
@@ -28,6 +43,7 @@ use Rattle.wef_collector_rows.specs.declared.standings.Standing.TheVariants as s
 use Rattle.wef_collector_serving.specs.ByRows.{Goes}
 use Rattle.wef_commands.specs.Laws.{StartsAtMost, can_start, started}
 use Rattle.wef_documents.specs.Written.{document_text}
+use Rattle.wef_eventing.proofs.AddressesBack.{addresses_read_back}
 use Rattle.wef_eventing.specs.Addresses.{IsHost, subscription_in}
 use Rattle.wef_eventing.specs.declared.offers.Offer.{Offer}
 use Rattle.wef_eventing.specs.declared.subscriptions.Subscription.{Subscription}
@@ -38,35 +54,43 @@ use Rattle.wef_front_collector.specs.declared.hearing.Asked.TheVariants as asks
 use Rattle.wef_front_collector.specs.declared.hearing.Asked.TheVariants.{Refused, Enumerate, Unread, Take, Heartbeat, UnreadEnd}
 use Rattle.wef_front_collector.specs.declared.saying.Said.{Said}
 use Rattle.wef_front_collector.specs.declared.saying.Said.TheVariants as said
+use Rattle.wef_front_source.specs.Sending.{IsPlainText}
+use Rattle.wef_ids.specs.IdTexts.{id_of_value}
+use Rattle.wef_ids.specs.Ids.{next_id}
 use Rattle.wef_ids.specs.declared.FaultName.{FaultName}
 use Rattle.wef_ids.specs.declared.FaultName.TheVariants.{InvalidMessage}
 use Rattle.wef_ids.specs.declared.MessageId.{MessageId}
+use Rattle.wef_ids.specs.declared.ids.Ids.{Ids}
 use Rattle.wef_keeper.specs.Calls.{Makes, MayLeave}
 use Rattle.wef_keeper.specs.Rows.{Rows, applied}
 use Rattle.wef_keeper.specs.declared.keys.Change.{Change}
 use Rattle.wef_machine.specs.Answering.{answers_by}
 use Rattle.wef_machine.specs.Collecting.{reply_id, with_call}
 use Rattle.wef_machine.specs.Deliveries.{BatchEffect, batch_effect, batch_effect_by, effect_at}
+use Rattle.wef_machine.specs.Leasing.{response_by}
+use Rattle.wef_machine.specs.States as machine
 use Rattle.wef_machine.specs.States.{Slot, Slots, State, slot_of, with_foreign}
 use Rattle.wef_machine.specs.declared.messages.Message.{Message}
-use Rattle.wef_machine.specs.declared.messages.Message.TheVariants.{Ack, Beat, Events, Offers}
+use Rattle.wef_machine.specs.declared.messages.Message.TheVariants.{Ack, Beat, Events, Offers, Request}
 use Rattle.wef_pairs.specs.Pairs.{about_of, subscription_at}
-use Rattle.wef_replay.specs.Good.{is_source}
+use Rattle.wef_replay.specs.Good.{is_source, is_subscription}
 use Rattle.wef_safety.proofs.Aside.{IsAsideKept, KeptWith, booted_aside, changes_kept, kept_aside, kept_by_booting}
 use Rattle.wef_safety.proofs.CollectorSteps.{batch_keeps, end_keeps, events_keep, foreign_kept, is_foreign, subscribe_keeps}
+use Rattle.wef_safety.proofs.DueRequests.{due_is_asked, due_waits, next_has}
 use Rattle.wef_safety.proofs.LeaseRows.{HaveNames, ended}
+use Rattle.wef_safety.proofs.LeaseSteps.{response_keeps}
 use Rattle.wef_safety.proofs.LowerFacts.{lower, source_named, subscription_named}
 use Rattle.wef_safety.proofs.Moves.{declared_at, kept_reply}
-use Rattle.wef_safety.proofs.Offering.{all_offers}
-use Rattle.wef_safety.proofs.RowMoves.{IsChangeKept, known_name, subscription_by_taking, taking_covers, taking_reaches}
+use Rattle.wef_safety.proofs.Offering.{all_offers, reads_source, reads_subscription}
+use Rattle.wef_safety.proofs.RowMoves.{AreRowsKept, IsChangeKept, known_name, subscription_by_taking, taking_covers, taking_reaches}
 use Rattle.wef_safety.proofs.Sent.{sent_before}
-use Rattle.wef_safety.specs.Kept.{IsAckKept, IsDelivery, IsKept, IsMessageKept, IsOffered, IsOnPath, IsWorldKept, request_id}
+use Rattle.wef_safety.specs.Kept.{IsAckKept, IsAsked, IsAskedFor, IsBehind, IsDelivery, IsKept, IsMessageKept, IsOffered, IsOnPath, IsSaid, IsWorldKept, request_id}
 use Rattle.wef_safety.specs.Safe.{WasSent}
 use Rattle.wef_source.specs.declared.messages.Delivery.{Delivery}
 use Rattle.wef_runs.proofs.Taken.{cut_stays, done_as_cut}
-use Rattle.wef_runs.specs.Deeds.{Deed, Does, IsCut, Stay}
-use Rattle.wef_runs.specs.Deeds.{Starts, Adds, Ends, Answers, Leaves}
-use Rattle.wef_deployments.specs.Hearing.{DeedsKeep, HearsAsked, HearsBatch, HearsBeat, Hears, IsAddable, NamesHost, WasBeaten, WasDelivered, after_cut, after_deed, messages_said, named_by, to_declared, with_rows, with_stranger}
+use Rattle.wef_runs.specs.Deeds.{Deed, Does, IsCut, IsDue, Stay}
+use Rattle.wef_runs.specs.Deeds.{Starts, Adds, Ends, Answers, Leaves, Requests, Takes}
+use Rattle.wef_deployments.specs.Hearing.{DeedsKeep, HearsAsked, HearsBatch, HearsBeat, Hears, IsAddable, IsToAsked, NamesHost, WasBeaten, WasDelivered, after_cut, after_deed, messages_said, named_by, to_declared, with_rows, with_stranger}
 
 -- ---- worlds at a moment, and lines whose commit is kept but stops the collector
 
@@ -97,6 +121,79 @@ answered : (state : State) (n : ℕ) (changes : List Change) (ack : Bool) (s : L
     → KeptWith state (applied changes state.collector.rows)
 answered state n [] ack s id relates kept after = kept
 answered state n (change ∷ changes) ack s id relates kept after = at_moment state.moment kept.soon after
+
+-- ---- requests of the collector
+
+number_self : (n : ℕ) → n == n ≡ true
+number_self n = grind (arith, nat_tests)
+
+-- What is due is asked for as the lines of schedules ask, but at any host.
+module _ (rows : Rows) (keys : AreRowsKept rows) where
+  -- a source may be asked for this, under names that read back
+  abbrev IsWellAsked : asking.Request → Type 0
+  IsWellAsked r = IsAskedFor rows r.source.name r.body × IsAsked (waiting_of r)
+
+  well_asked : (waiting : List Waiting) (ids : Ids) (moment : ℕ) → IfSome (next_request rows waiting ids machine.host moment) IsWellAsked
+  well_asked waiting ids moment =
+      next_has IsWellAsked rows waiting ids moment keys (λ due is. (due_is_asked rows due keys is, due_waits rows (id_of_value (next_id ids)) due is))
+
+  module _ (host : List ℕ) where
+    -- a wish for another host
+    offered_at : (s : List ℕ) (about : Subscription) → IsHost host → is_source s ≡ true
+        → IsOffered rows s (subscribe_from (bookmark_of rows about.name s) s machine.host about (Some about.expires)) → IsOffered rows s (subscribe_from (bookmark_of rows about.name s) s host about (Some about.expires))
+    offered_at s about is_host good offered =
+        let terms = offered.terms in
+        let at : offered.u ≡ about.name = sym (same_Some about.name offered.u terms.identifier_is) in
+        let named = subst (λ (v : List ℕ). is_subscription v ≡ true) at (known_name rows offered.u terms.about keys terms.known) in
+        let name = reads_subscription about.name named in
+        let source = reads_source s good in
+        let back = addresses_read_back host about.name s name.0 name.1 source.0 source.1 in
+        record {
+          u = about.name;
+          terms = record {
+            about = terms.about;
+            known = subst (λ (v : List ℕ). subscription_at rows v ≡ Some terms.about) at terms.known;
+            at = host;
+            host = is_host;
+            address_is = refl;
+            to_subscription = back.0;
+            to_source = back.1;
+            identifier_is = refl;
+            query_is = terms.query_is;
+            max_items_is = terms.max_items_is;
+            max_bytes_is = terms.max_bytes_is;
+          };
+          from = subst (λ (v : List ℕ). IsBehind rows v s (bookmark_of rows about.name s)) at offered.from;
+          told = refl;
+        }
+
+    asked_at : (s : List ℕ) (about : Subscription) → IsHost host → is_source s ≡ true → (wants : Wants) → IsAskedFor rows s (body_for rows machine.host about s wants) → IsAskedFor rows s (body_for rows host about s wants)
+    asked_at s about is_host good Subscribes (offered, lasting) = (offered_at s about is_host good offered, lasting)
+    asked_at s about is_host good (Renews identifier) lasting = lasting
+    asked_at s about is_host good (Unsubscribes identifier) none = none
+
+    waits_at : (about : Subscription) (s : List ℕ) (wants : Wants) → IfSome (identifier_of (wants_by (identifier_of wants) (body_for rows machine.host about s wants))) IsPlainText
+        → IfSome (identifier_of (wants_by (identifier_of wants) (body_for rows host about s wants))) IsPlainText
+    waits_at about s Subscribes plain = plain
+    waits_at about s (Renews identifier) plain = plain
+    waits_at about s (Unsubscribes identifier) plain = plain
+
+    -- a request that is due may be sent to a source of a good name, and waits under names that read back
+    record IsDueWell (r : asking.Request) : Type 0 where
+      may : IsHost host → is_source r.source.name ≡ true → IsAskedFor rows r.source.name r.body
+      waits : IsAsked (waiting_of r)
+
+    due_well : (r : asking.Request) (moment : ℕ) → IsDue rows host r moment → IsDueWell r
+    due_well r moment (waiting, ids, is) = by (next_due rows waiting moment) is (well_asked waiting ids moment)
+      where
+        by : (o : Option Due) → Some r ≡ option_map (request_for rows host (id_of_value (next_id ids))) o
+            → IfSome (option_map (request_for rows machine.host (id_of_value (next_id ids))) o) IsWellAsked → IsDueWell r
+        by None is well = absurd (none-some r (sym is))
+        by (Some due) is (asked, waits) =
+            subst IsDueWell (same_Some (request_for rows host (id_of_value (next_id ids)) due) r (sym is)) (record {
+              may = λ is_host good. asked_at due.source.name due.subscription is_host good due.wants asked;
+              waits = record { subscription = waits.subscription; source = waits.source; identifier = waits_at due.subscription due.source.name due.wants waits.identifier };
+            })
 
 -- rows that a call makes are kept
 abbrev KeepsBy : State → Rows → calls.Effect → Type 0
@@ -170,6 +267,32 @@ module _ (state : State) (kept : IsKept state) (last : Rows) where
   lease_keeps : (u s identifier : List ℕ) (known : Bool) → KeepsBy state last (cond known (Ok (end_lease rows u s identifier)) (Err faults.NoSubscription))
   lease_keeps u s identifier true = λ made. as_made state (applied (end_lease rows u s identifier) rows) last made (changes_kept state (end_lease rows u s identifier) kept (ended rows u s identifier))
   lease_keeps u s identifier false = λ made. absurd made
+
+  -- ---- the answer to a request
+
+  answer_committed : (n : ℕ) (id : Option ℕ) (changes : List Change) → IsKept (response_by (stopping state n) id (Ok changes)) → KeptWith state (applied changes state.collector.rows)
+  answer_committed n id [] after = kept
+  answer_committed n id (change ∷ changes) after = at_moment state.moment kept.soon after
+
+  -- a collector that waits for the answer to this request alone
+  abbrev waiting_alone : Waiting → Memory
+  waiting_alone w = record { ids = (memory_begun state.collector.rows).ids; waiting = w ∷ [] }
+
+  found_alone : (w : Waiting) → waiting_for (waiting_alone w) (Some w.id) ≡ Some w
+  found_alone w = ap (λ (t : Bool). cond t (Some w) None) (number_self w.id)
+
+  answer_keeps : (waits : Option Waiting) (answer : Response) (n : ℕ) → n ≤ LAST_MOMENT → IsSaid answer → IfSome waits IsAsked → KeepsBy state last (waiting_effect waits answer n rows)
+  answer_keeps None answer n soon said asked = λ made. absurd made
+  answer_keeps (Some w) answer n soon said asked =
+      by (leasing_of answer w.wants n)
+      (subst (λ (o : Option Waiting). IsKept (response_by (stopping state n) (Some w.id) (waiting_effect o answer n state.collector.rows))) (found_alone w)
+      (response_keeps (stopping state n) (waiting_alone w) (id_of_value w.id) answer (at_moment n soon kept) said (subst (λ (o : Option Waiting). IfSome o IsAsked) (sym (found_alone w)) asked)))
+    where
+      by : (o : Option Leasing) → IsKept (response_by (stopping state n) (Some w.id) (leasing_effect state.collector.rows w o)) → KeepsBy state last (leasing_effect state.collector.rows w o)
+      by None after = λ made. absurd made
+      by (Some leasing) after = λ made.
+          as_made state (applied (lease_changes state.collector.rows w.sub w.source leasing) state.collector.rows) last made
+          (answer_committed n (Some w.id) (lease_changes state.collector.rows w.sub w.source leasing) after)
 
   -- ---- batches of declared sources
 
@@ -303,14 +426,17 @@ module _ (state : State) (kept : IsKept state) (last : Rows) where
   asked_left asked n relates soon hears (inl same) = subst (KeptWith (named_by asked state)) (named_rows asked ∙ sym same) (named_kept asked)
   asked_left asked n relates soon hears (inr made) = asked_made asked n relates soon hears made
 
-  pub cut_keeps : (deed : Deed) → Hears state deed → IsCut deed rows last → IsKept (after_cut state deed last)
-  cut_keeps Starts room left = start_keeps room left
-  cut_keeps (Adds s) can (inl same) = same_kept same
-  cut_keeps (Adds s) can (inr made) = add_keeps s can made
-  cut_keeps (Ends u) hears (inl same) = same_kept same
-  cut_keeps (Ends u) hears (inr made) = end_keeps_so u made
-  cut_keeps (Answers host heard moment id said) hears left = asked_left heard.asked moment heard.relates hears.0 hears.1 left
-  cut_keeps (Leaves heard moment) hears left = asked_left heard.asked moment heard.relates hears.0 hears.1 left
+  pub cut_keeps : (deed : Deed) → IsToAsked deed → Hears state deed → IsCut deed rows last → IsKept (after_cut state deed last)
+  cut_keeps Starts to room left = start_keeps room left
+  cut_keeps (Adds s) to can (inl same) = same_kept same
+  cut_keeps (Adds s) to can (inr made) = add_keeps s can made
+  cut_keeps (Ends u) to hears (inl same) = same_kept same
+  cut_keeps (Ends u) to hears (inr made) = end_keeps_so u made
+  cut_keeps (Answers host heard moment id said) to hears left = asked_left heard.asked moment heard.relates hears.0 hears.1 left
+  cut_keeps (Leaves heard moment) to hears left = asked_left heard.asked moment heard.relates hears.0 hears.1 left
+  cut_keeps (Requests host r moment) to hears left = same_kept left.0
+  cut_keeps (Takes waits answer moment) to hears (inl same) = same_kept same
+  cut_keeps (Takes waits answer moment) to hears (inr made) = answer_keeps waits answer moment hears.0 hears.1 to made
 
   -- ---- what is said
 
@@ -494,15 +620,21 @@ module _ (state : State) (kept : IsKept state) (last : Rows) where
       by None there hears = says_to None (Ack s id relates) refl so (λ slot e. absurd (none-some slot e))
       by (Some slot) there was = kept_reply (with_rows state last) (Ack s id relates) so refl (beat_acked s slot id relates was there stay)
 
-  pub done_keeps : (deed : Deed) → Hears state deed → Does deed rows last → IsKept (after_deed state deed last)
-  done_keeps Starts hears does = silent_so (cut_keeps Starts hears does)
+  pub done_keeps : (deed : Deed) → IsToAsked deed → Hears state deed → Does deed rows last → IsKept (after_deed state deed last)
+  done_keeps Starts to hears does = silent_so (cut_keeps Starts tt hears does)
     where
       silent_so : KeptWith state last → IsWorldKept last state.foreign state.sources (state.messages ++ []) state.moment
       silent_so so = subst (λ (messages : List Message). IsWorldKept last state.foreign state.sources messages state.moment) (sym (append-nil state.messages)) so
-  done_keeps (Adds s) hears does = subst (λ (messages : List Message). IsWorldKept last state.foreign state.sources messages state.moment) (sym (append-nil state.messages)) (cut_keeps (Adds s) hears does)
-  done_keeps (Ends u) hears does = subst (λ (messages : List Message). IsWorldKept last state.foreign state.sources messages state.moment) (sym (append-nil state.messages)) (cut_keeps (Ends u) hears does)
-  done_keeps (Leaves heard moment) hears does = silent heard.asked [] refl (asked_left heard.asked moment heard.relates hears.0 hears.1 does)
-  done_keeps (Answers host heard moment id said) hears does = by does
+  done_keeps (Adds s) to hears does = subst (λ (messages : List Message). IsWorldKept last state.foreign state.sources messages state.moment) (sym (append-nil state.messages)) (cut_keeps (Adds s) tt hears does)
+  done_keeps (Ends u) to hears does = subst (λ (messages : List Message). IsWorldKept last state.foreign state.sources messages state.moment) (sym (append-nil state.messages)) (cut_keeps (Ends u) tt hears does)
+  done_keeps (Takes waits answer moment) to hears does =
+      subst (λ (messages : List Message). IsWorldKept last state.foreign state.sources messages state.moment) (sym (append-nil state.messages)) (cut_keeps (Takes waits answer moment) to hears does)
+  done_keeps (Requests host r moment) to is_host does =
+      let well = due_well state.collector.rows kept.keys host r moment does.1 in
+      says_to (slot_of state r.source.name) (Request r.source.name r.id r.identifier r.body) refl (same_kept does.0) (λ slot there.
+      subst (λ (found : Rows). IsAskedFor found r.source.name r.body) (sym does.0) (well.may is_host (kept.sources r.source.name slot there).name))
+  done_keeps (Leaves heard moment) to hears does = silent heard.asked [] refl (asked_left heard.asked moment heard.relates hears.0 hears.1 does)
+  done_keeps (Answers host heard moment id said) to hears does = by does
     where
       so : KeptWith (named_by heard.asked state) last
       so = asked_left heard.asked moment heard.relates hears.0 hears.1 (done_as_cut (Answers host heard moment id said) rows last does)
@@ -513,6 +645,7 @@ module _ (state : State) (kept : IsKept state) (last : Rows) where
 
 pub deeds_keep : DeedsKeep
 deeds_keep = record {
-  done = λ state deed last kept hears does. done_keeps state kept last deed hears does;
-  cut = λ state deed last kept hears left. cut_keeps state kept last deed hears left;
+  done = λ state deed last kept to hears does. done_keeps state kept last deed to hears does;
+  cut = λ state deed last kept to hears left. cut_keeps state kept last deed to hears left;
+  asked = λ state host r moment kept due. (due_well state.collector.rows kept.keys host r moment due).waits;
 }

@@ -34,14 +34,14 @@ use Rattle.wef_runs.proofs.Taken.{cut_stays}
 use Rattle.wef_deployments.proofs.Worlds.{worlds_kept}
 use Rattle.wef_runs.specs.Acts.{Act}
 use Rattle.wef_runs.specs.Deeds.{Deed}
-use Rattle.wef_runs.specs.Deeds.{Starts, Adds, Ends, Answers, Leaves}
+use Rattle.wef_runs.specs.Deeds.{Starts, Adds, Ends, Answers, Leaves, Requests, Takes}
 use Rattle.wef_deployments.specs.Hearing.{after_cut, named, named_by, with_stranger}
 use Rattle.wef_deployments.specs.Printed.{EventsPrintHistory, LinesNameRecords, PrintsHistory}
 use Rattle.wef_runs.specs.Recorded.{WritesTellHistory}
 use Rattle.wef_deployments.specs.Sources.{IsActing, IsBroken, SourceDeed, Turns, slot_left}
 use Rattle.wef_deployments.specs.Sources.{StartsLog, StartsSource, Writes, Acts}
 use Rattle.wef_deployments.specs.Worlds.{Next, Reaches, World, new_state}
-use Rattle.wef_deployments.specs.Worlds.{collector_begins, collector_goes_on, collector_stops, collector_is_cut, write_begins, forward_begins, source_goes_on, source_stops, source_is_cut, begins, goes_on}
+use Rattle.wef_deployments.specs.Worlds.{collector_begins, collector_goes_on, collector_stops, collector_is_cut, write_begins, forward_begins, serve_begins, source_goes_on, source_stops, source_is_cut, begins, goes_on}
 
 -- ---- `events`
 
@@ -53,7 +53,7 @@ module _ (state : State) (kept : IsKept state) (room : can_start state.collector
   pair_safe : subscription_at state.collector.rows u ≡ Some about → slot_of state s ≡ Some slot → is_in (channels_read about) c ≡ true
       → IsPairSafe (started state.collector.rows) u s c 0 (settings_of about) (history slot.histories c) slot.capacity
   pair_safe known there listed =
-      let then_kept = deeds_keep.cut state Starts (started state.collector.rows) kept room (inr refl) in
+      let then_kept = deeds_keep.cut state Starts (started state.collector.rows) kept tt room (inr refl) in
       let stays = cut_stays state.collector.rows (started state.collector.rows) Starts (inr refl) in
       (kept_is_safe (after_cut state Starts (started state.collector.rows)) then_kept).pairs u s c about (written_by slot) (stays.known u about known) (ap (option_map written_by) there) listed
 
@@ -115,6 +115,8 @@ deed_have (Adds s) state have = have
 deed_have (Ends u) state have = have
 deed_have (Answers host heard moment id said) state have = named_have heard.asked state have
 deed_have (Leaves heard moment) state have = named_have heard.asked state have
+deed_have (Requests host r moment) state have = have
+deed_have (Takes waits answer moment) state have = have
 
 next_have : {w next : World} → Next w next → HaveCapacity w.state → HaveCapacity next.state
 next_have (collector_begins w command last account of none) have = have
@@ -123,6 +125,7 @@ next_have (collector_stops w) have = have
 next_have (collector_is_cut w deed deeds last on hears cut) have = deed_have deed w.state have
 next_have (write_begins w s slot last run there none) have = have
 next_have (forward_begins w address s count slot last account there none) have = have
+next_have (serve_begins w address s count slot last account there none) have = have
 next_have (source_goes_on w s slot next deed deeds there on hears turns) have = put_has w.state s next have (turn_capacity deed slot next turns ∙ have s slot there)
 next_have (source_stops w s slot there) have = put_has w.state s (slot_left slot slot.place.rows None) have (have s slot there)
 next_have (source_is_cut w s slot next deed deeds there on hears broken) have = put_has w.state s next have (broken_capacity deed slot next broken ∙ have s slot there)

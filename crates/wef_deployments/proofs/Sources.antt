@@ -1,9 +1,12 @@
 -- What is kept of a world stays kept behind each deed of a source.
-use Rattle.std.proofs.Common.{◌≡◌, inl, inr, ℕ, ◌+◌, ◌*◌, ◌<◌, ◌≤◌, Bool, true, false, cond, ◌&&◌, List, [], ◌∷◌, ◌++◌, ap, sym, refl, subst, ◌∙◌, arith, append-nil}
+use Rattle.std.proofs.Common.{◌≡◌, ◌⊎◌, inl, inr, ℕ, ◌+◌, ◌-◌, ◌*◌, ◌<◌, ◌≤◌, Bool, true, false, cond, ◌&&◌, List, [], ◌∷◌, ◌++◌, nat_lt, ap, sym, refl, subst, ◌∙◌, arith, append-nil}
 use Rattle.std.proofs.lemmas.Bool.{cond_both}
+use Rattle.std.proofs.lemmas.Bool.Decides.{nat_tests}
 use Rattle.std.specs.FinMap as finite
 use Rattle.std.specs.List.{AllByRecursion, filter}
 use Rattle.std.specs.Prelude.{Option, Some, None, Ok, Err, is_none, unwrap_or}
+use Rattle.wef_bodies.specs.declared.bodies.Body.{Body}
+use Rattle.wef_bodies.specs.declared.bodies.Body.TheVariants as body
 use Rattle.wef_bookmark.specs.Order.{Marks}
 use Rattle.wef_building.specs.Building.{built}
 use Rattle.wef_building.specs.declared.sessions.Outstanding.{Outstanding}
@@ -11,15 +14,26 @@ use Rattle.wef_building.specs.declared.sessions.Session.{Session}
 use Rattle.wef_collector.proofs.Hits.{one_name}
 use Rattle.wef_event.specs.Events.{Event, is_event}
 use Rattle.wef_event.specs.Numbering.{numbered}
+use Rattle.wef_eventing.specs.Addresses.{subscription_in}
 use Rattle.wef_eventing.specs.declared.offers.Offer.{Offer}
-use Rattle.wef_ids.specs.IdTexts.{id_of_value}
+use Rattle.wef_eventing.specs.declared.offers.Subscribe.{Subscribe}
+use Rattle.wef_front_source.specs.Replies.{answered_in}
+use Rattle.wef_front_source.specs.Steps.{begun_by, done_by, done_where, managed_said, said_by, unless_expired, with_ids}
+use Rattle.wef_front_source.specs.declared.hearing.Asked.{Asked}
+use Rattle.wef_front_source.specs.declared.hearing.Asked.TheVariants.{Refused, Begin, Manage}
+use Rattle.wef_front_source.specs.declared.hearing.Wants.{Wants}
+use Rattle.wef_front_source.specs.declared.hearing.Wants.TheVariants as wants
+use Rattle.wef_front_source.specs.declared.saying.Said.{Said}
+use Rattle.wef_front_source.specs.declared.saying.Said.TheVariants as said
+use Rattle.wef_ids.specs.IdTexts.{id_of_value, id_text}
 use Rattle.wef_ids.specs.declared.FaultName.{FaultName}
+use Rattle.wef_ids.specs.declared.FaultName.TheVariants.{UnableToRenew}
 use Rattle.wef_ids.specs.declared.MessageId.{MessageId}
 use Rattle.wef_keeper.specs.Calls.{Makes}
 use Rattle.wef_keeper.specs.Rows.{Rows}
 use Rattle.wef_machine.specs.States.{Slot, State, slot_of, with_message, with_messages, with_slot}
 use Rattle.wef_machine.specs.declared.messages.Message.{Message}
-use Rattle.wef_machine.specs.declared.messages.Message.TheVariants.{Ask, Beat, Events, Offers, Ack}
+use Rattle.wef_machine.specs.declared.messages.Message.TheVariants.{Ask, Beat, Events, Offers, Ack, Request}
 use Rattle.wef_query.specs.Order.{IsInOrder}
 use Rattle.wef_replay.specs.Good.{may_be_written}
 use Rattle.wef_safety.proofs.GoodLines.{IsWritable, writable_xml}
@@ -28,15 +42,15 @@ use Rattle.wef_safety.proofs.LowerFacts.{lower}
 use Rattle.wef_safety.proofs.Moves.{are_one, declared_is, kept_draw, kept_slot, put_there, slot_put}
 use Rattle.wef_safety.proofs.SaidEvents.{numbered_said, written_events}
 use Rattle.wef_safety.proofs.Sent.{sent_before, sent_last}
-use Rattle.wef_safety.proofs.Sessions.{acknowledged_served, all_changed, all_filtered, all_first_changed, all_offered, all_without, first_passes, settled_served}
+use Rattle.wef_safety.proofs.Sessions.{acknowledged_served, all_changed, all_filtered, all_first_changed, all_offered, all_with_session, all_without, first_passes, leased_begins, prolonged_served, settled_served}
 use Rattle.wef_safety.proofs.SourceSteps.{all_later, below_most, delivery_kept, fresh_id, session_served}
 use Rattle.wef_safety.specs.Kept.{IsAckKept, IsDelivery, IsEndKept, IsKept, IsMessageKept, IsOffered, IsOnPath, IsRunningKept, IsServed, IsSourceKept, WasDrawn, last_id, request_id}
 use Rattle.wef_safety.specs.Safe.{read_by, source_of}
-use Rattle.wef_source.proofs.InOrder.{acknowledged_name, changed_in_order, filter_in_order, none_in_order, sending_name, settled_name, without_in_order}
-use Rattle.wef_source.proofs.Placements.{with_offers_in_order}
+use Rattle.wef_source.proofs.InOrder.{acknowledged_name, changed_in_order, filter_in_order, none_in_order, prolonged_name, sending_name, settled_name, without_in_order}
+use Rattle.wef_source.proofs.Placements.{with_offers_in_order, with_session_in_order}
 use Rattle.wef_source.specs.Answers.{WhereThere}
-use Rattle.wef_source.specs.Machine.{End, acknowledged_in, adopted, asked, beat_of, beaten, delivery_of, is_spent, is_unreachable, lost_in, most_drawn, next_id, refused_in, sent, sent_to, start_of}
-use Rattle.wef_source.specs.Sessions.{acknowledged, is_leased, is_named, names_of, sending, session_of, settled, waits_for, with_changed, without}
+use Rattle.wef_source.specs.Machine.{End, acknowledged_in, adopted, asked, beat_of, beaten, cancelled_in, delivery_of, drawn_in, ids_left, is_spent, is_unreachable, lease_of, lease_time, lost_in, most_drawn, next_id, refused_in, renewed_in, sent, sent_to, start_of}
+use Rattle.wef_source.specs.Sessions.{acknowledged, has_expired, is_leased, is_leased_as, is_named, leased_as, names_of, prolonged, sending, session_leased, session_of, settled, time_left, waits_for, with_changed, without}
 use Rattle.wef_source_log.specs.Answers.{is_boot_full, is_full, next_boot, next_number, next_text, write_effect}
 use Rattle.wef_source_log.specs.Forms as log
 use Rattle.wef_source_log.specs.Histories.{Histories, History, extended, history}
@@ -45,7 +59,7 @@ use Rattle.wef_source_log.specs.declared.faults.LogFault.{LogFault}
 use Rattle.wef_source_log.specs.declared.faults.LogFault.TheVariants as faults
 use Rattle.wef_runs.specs.Acts as acts
 use Rattle.wef_runs.specs.Acts.{Act, IsActed}
-use Rattle.wef_deployments.specs.Sources.{HearsAct, HearsAs, IsActing, IsBroken, SourceDeed, SourceDeedsKeep, StartsAtMost, Turns, says_acting, says_as, says_of_session, says_running, slot_left, slot_recorded}
+use Rattle.wef_deployments.specs.Sources.{HearsAct, HearsAs, HearsWish, IsActing, IsBroken, SourceDeed, SourceDeedsKeep, StartsAtMost, Turns, says_acting, says_as, says_of_session, says_running, slot_left, slot_recorded}
 use Rattle.wef_deployments.specs.Sources.{StartsLog, StartsSource, Writes, Acts}
 
 -- ---- slots
@@ -202,13 +216,26 @@ module _ (state : State) (kept : IsKept state) (s : List ℕ) (slot : Slot) (the
       drawn = subst (λ (o : Option End). last_id slot o ≤ then_on.boot * 18446744073709551616 + then_on.drawn) (sym runs) (omega (arith, boot));
     }
 
+    -- what a source holds once it goes on: it is of the same start, drew no fewer ids, and what it serves has its terms
+    record GoesOn (new : End) : Type 0 where
+      boot : new.boot ≡ end.boot
+      more : end.drawn ≤ new.drawn
+      most : new.drawn ≤ most_drawn
+      in_order : IsInOrder (names_of new.sessions)
+      sessions : AllByRecursion (IsServed state.collector.rows state.messages s) new.sessions
+
+    end_goes : (then_on : End) → GoesOn then_on → IsKept (with_slot state s (left then_on))
+    end_goes then_on goes =
+        let some = is.1 in
+        let boot = goes.boot in
+        kept_slot state s slot (left then_on) kept there (goes_on then_on goes.boot goes.more)
+        (running_source state.messages then_on (record { boot = goes.boot ∙ is.0.boot; drawn = goes.most; in_order = goes.in_order; sessions = goes.sessions }) (omega (arith, boot, some)))
+
     end_kept : (then_on : End) → then_on.boot ≡ end.boot → then_on.drawn ≡ end.drawn → IsInOrder (names_of then_on.sessions) → AllByRecursion (IsServed state.collector.rows state.messages s) then_on.sessions
         → IsKept (with_slot state s (left then_on))
     end_kept then_on boot drawn in_order sessions =
-        let some = is.1 in
         let most = is.0.drawn in
-        kept_slot state s slot (left then_on) kept there (goes_on then_on boot (omega (arith, drawn)))
-        (running_source state.messages then_on (record { boot = boot ∙ is.0.boot; drawn = omega (arith, drawn, most); in_order = in_order; sessions = sessions }) (omega (arith, boot, some)))
+        end_goes then_on (record { boot = boot; more = omega (arith, drawn); most = omega (arith, drawn, most); in_order = in_order; sessions = sessions })
 
     asked_kept : is_spent end ≡ false → IsKept (with_message (with_slot state s (left (asked end))) (Ask s (id_of_value (next_id end))))
     asked_kept free =
@@ -298,6 +325,112 @@ module _ (state : State) (kept : IsKept state) (s : List ℕ) (slot : Slot) (the
     lost_kept : (u : List ℕ) → IsKept (with_slot state s (left (lost_in end u)))
     lost_kept u = end_kept (lost_in end u) refl refl (changed_in_order (is_named u) settled settled_name end.sessions is.0.in_order) (settled_sessions (is_named u))
 
+    -- ---- what a collector asks
+
+    same_goes : GoesOn end
+    same_goes = record { boot = refl; more = omega arith; most = is.0.drawn; in_order = is.0.in_order; sessions = is.0.sessions }
+
+    -- an id is drawn
+    draws : (new : End) → GoesOn new → new.drawn + 1 ≤ most_drawn → GoesOn (drawn_in new)
+    draws new goes room =
+        let more = goes.more in
+        record { boot = goes.boot; more = omega arith; most = room; in_order = goes.in_order; sessions = goes.sessions }
+
+    -- an answer that is no fault has an id
+    abbrev HasId : End → Said → Type 0
+    HasId new (said.Done answer) = new.drawn + 1 ≤ most_drawn
+    HasId new (said.Fault name) = Unit {0}
+    HasId new said.Spent = Unit {0}
+
+    -- what is done where a source says this
+    abbrev IsDone : Asked → ℕ → Said → Type 0
+    IsDone asks moment says = GoesOn (done_where says end asks moment) × HasId (done_where says end asks moment) says
+
+    enough : (drawn needed : ℕ) → drawn ≤ most_drawn → nat_lt (most_drawn - drawn) needed ≡ false → drawn + needed ≤ most_drawn
+    enough drawn needed most few = grind (arith, nat_tests, few)
+
+    -- what needs ids is done where they are left
+    where_enough : (asks : Asked) (moment needed : ℕ) (answer : Body) → (end.drawn + needed ≤ most_drawn → IsDone asks moment (said.Done answer)) → IsDone asks moment (with_ids needed end answer)
+    where_enough asks moment needed answer done =
+        cond_both (nat_lt (ids_left end) needed) said.Spent (said.Done answer) (IsDone asks moment) (λ few. (same_goes, tt)) (λ room. done (enough end.drawn needed same_goes.most room))
+
+    -- what is asked of a session is done where it hasn't expired
+    where_stands : (asks : Asked) (moment : ℕ) (session : Session) (says : Said) → IsDone asks moment says → IsDone asks moment (unless_expired moment session says)
+    where_stands asks moment session says done =
+        cond_both (has_expired moment session) (said.Fault UnableToRenew) says (IsDone asks moment) (λ over. (same_goes, tt)) (λ stands. done)
+
+    -- a session begins with the wish of the collector
+    wish_goes : (wish : Subscribe) (moment : ℕ) → IsOffered state.collector.rows s wish → end.drawn + 2 ≤ most_drawn → (o : Option (List ℕ)) → subscription_in wish.notify_to ≡ o
+        → GoesOn (begun_by end wish moment o) × ((begun_by end wish moment o).drawn + 1 ≤ most_drawn)
+    wish_goes wish moment offered room None leads = (same_goes, omega arith)
+    wish_goes wish moment offered room (Some u) leads =
+        let session = session_leased moment wish (lease_of (next_id end) wish moment) u in (
+          record {
+            boot = refl;
+            more = omega arith;
+            most = omega arith;
+            in_order = with_session_in_order end.sessions session is.0.in_order;
+            sessions = all_with_session (IsServed state.collector.rows state.messages s) end.sessions session
+                (leased_begins state.collector.rows state.messages s moment (next_id end) wish u leads offered) is.0.sessions;
+          },
+          omega arith,
+        )
+
+    renewed_goes : (identifier : List ℕ) (expiry : ℕ) → GoesOn (renewed_in end identifier expiry)
+    renewed_goes identifier expiry = record {
+      boot = refl;
+      more = omega arith;
+      most = is.0.drawn;
+      in_order = changed_in_order (is_leased_as identifier) (prolonged expiry) (prolonged_name expiry) end.sessions is.0.in_order;
+      sessions = all_changed (IsServed state.collector.rows state.messages s) (is_leased_as identifier) (prolonged expiry)
+          (λ session passes. prolonged_served state.collector.rows state.messages s expiry session) end.sessions is.0.sessions;
+    }
+
+    cancelled_goes : (identifier : List ℕ) → GoesOn (cancelled_in end identifier)
+    cancelled_goes identifier = record {
+      boot = refl;
+      more = omega arith;
+      most = is.0.drawn;
+      in_order = without_in_order (is_leased_as identifier) end.sessions is.0.in_order;
+      sessions = all_without (IsServed state.collector.rows state.messages s) (is_leased_as identifier) end.sessions is.0.sessions;
+    }
+
+    manages : (identifier : List ℕ) (wanted : Wants) (moment : ℕ) (found : Option Session) → IsDone (Manage identifier wanted) moment (managed_said end wanted moment found)
+    manages identifier wanted moment None = (same_goes, tt)
+    manages identifier (wants.Unread name) moment (Some session) = (same_goes, tt)
+    manages identifier (wants.Renew expires) moment (Some session) =
+        let asks : Asked = Manage identifier (wants.Renew expires) in
+        where_stands asks moment session (with_ids 1 end (body.Renewed expires))
+        (where_enough asks moment 1 (body.Renewed expires) (λ room. (renewed_goes identifier (moment + expires), room)))
+    manages identifier wants.GetStatus moment (Some session) =
+        let asks : Asked = Manage identifier wants.GetStatus in
+        let answer : Body = body.StatusIs (time_left moment session) in
+        where_stands asks moment session (with_ids 1 end answer) (where_enough asks moment 1 answer (λ room. (same_goes, room)))
+    manages identifier wants.Unsubscribe moment (Some session) =
+        where_enough (Manage identifier wants.Unsubscribe) moment 1 body.Unsubscribed (λ room. (cancelled_goes identifier, room))
+
+    does_so : (asks : Asked) (moment : ℕ) → HearsWish state s asks → IsDone asks moment (said_by end asks moment)
+    does_so (Refused name) moment hears = (same_goes, tt)
+    does_so (Begin wish) moment (id, identifier, was) =
+        where_enough (Begin wish) moment 2 (body.Subscribed (id_text (next_id end)) (lease_time wish.expires)) (λ room.
+        wish_goes wish moment (kept.messages (Request s id identifier (body.Subscribe wish)) was).0 room (subscription_in wish.notify_to) refl)
+    does_so (Manage identifier wanted) moment hears = manages identifier wanted moment (leased_as end.sessions identifier)
+
+    answers_so : (new : End) (says : Said) → GoesOn new → HasId new says → GoesOn (answered_in new says)
+    answers_so new (said.Done answer) goes room = draws new goes room
+    answers_so new (said.Fault name) goes room =
+        cond_both (is_spent new) new (drawn_in new) GoesOn (λ spent. goes) (λ free. draws new goes (below_most new.drawn free))
+    answers_so new said.Spent goes room = goes
+
+    replies_so : (asks : Asked) (moment : ℕ) → HearsWish state s asks → GoesOn (answered_in (done_by end asks moment) (said_by end asks moment))
+    replies_so asks moment hears = let done = does_so asks moment hears in answers_so (done_by end asks moment) (said_by end asks moment) done.0 done.1
+
+    leaves_so : (asks : Asked) (moment : ℕ) (then_on : End) → HearsWish state s asks
+        → (then_on ≡ end) ⊎ (then_on ≡ done_by end asks moment) ⊎ (then_on ≡ answered_in (done_by end asks moment) (said_by end asks moment)) → GoesOn then_on
+    leaves_so asks moment then_on hears (inl same) = subst GoesOn (sym same) same_goes
+    leaves_so asks moment then_on hears (inr (inl done)) = subst GoesOn (sym done) (does_so asks moment hears).0
+    leaves_so asks moment then_on hears (inr (inr replied)) = subst GoesOn (sym replied) (replies_so asks moment hears)
+
     -- the same of whatever the act makes of the end
     as_acted : (then_on made : End) (more : List Message) → then_on ≡ made → IsKept (with_messages (with_slot state s (left made)) more) → IsKept (with_messages (with_slot state s (left then_on)) more)
     as_acted then_on made more acted so = subst (λ (e : End). IsKept (with_messages (with_slot state s (left e)) more)) (sym acted) so
@@ -324,6 +457,8 @@ module _ (state : State) (kept : IsKept state) (s : List ℕ) (slot : Slot) (the
         as_acted then_on (acknowledged_in end n) [] acted (quiet state s (left (acknowledged_in end n)) (moved_kept n relates (kept.messages (Ack s id relates) was) at))
     act_kept (acts.Refuses n fault) then_on hears acted = as_acted then_on (refused_in end n fault) [] acted (quiet state s (left (refused_in end n fault)) (refused_kept n fault))
     act_kept (acts.Loses u) then_on hears acted = as_acted then_on (lost_in end u) [] acted (quiet state s (left (lost_in end u)) (lost_kept u))
+    act_kept (acts.Replies heard moment) then_on hears acted = quiet state s (left then_on) (end_goes then_on (subst GoesOn (sym acted) (replies_so heard.asked moment hears)))
+    act_kept (acts.Leaves heard moment) then_on hears may = quiet state s (left then_on) (end_goes then_on (leaves_so heard.asked moment then_on hears may))
 
   -- ---- deeds
 

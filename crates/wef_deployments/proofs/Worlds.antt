@@ -4,14 +4,14 @@ use Rattle.std.specs.Cmp.Lexicographic.{slice_cmp}
 use Rattle.std.specs.FinMap as finite
 use Rattle.std.specs.Option.{option_map}
 use Rattle.std.specs.Ordering.{nat_cmp}
-use Rattle.std.specs.Prelude.{Option, None, unwrap_or}
+use Rattle.std.specs.Prelude.{IfSome, Option, None, unwrap_or}
 use Rattle.wef_base.specs.Names.{same}
 use Rattle.wef_collector.proofs.Hits.{not_both, same_self}
 use Rattle.wef_commands.specs.declared.writing.TheConstants.{LOG_CAPACITY}
-use Rattle.wef_keeper.specs.Rows.{key_cmp}
+use Rattle.wef_keeper.specs.Rows.{Rows, key_cmp}
 use Rattle.wef_keeper.specs.declared.keys.Cell.{Cell}
 use Rattle.wef_machine.specs.Sources.{declared_slot}
-use Rattle.wef_machine.specs.States.{Slot, slot_of, start}
+use Rattle.wef_machine.specs.States.{Slot, State, slot_of, start}
 use Rattle.wef_replay.specs.Good.{is_among}
 use Rattle.wef_safety.proofs.LowerFacts.{lower}
 use Rattle.wef_safety.proofs.Moves.{kept_declared, put_there}
@@ -23,7 +23,11 @@ use Rattle.wef_source_log.specs.LogWindow.{IsWindow, boot_of}
 use Rattle.wef_deployments.proofs.Hearing.{deeds_keep}
 use Rattle.wef_deployments.proofs.Sources.{source_deeds_keep}
 use Rattle.wef_deployments.specs.Worlds.{AreSources, DeploymentsAreSafe, Next, Reaches, World, new_state, new_world}
-use Rattle.wef_deployments.specs.Worlds.{collector_begins, collector_goes_on, collector_stops, collector_is_cut, write_begins, forward_begins, source_goes_on, source_stops, source_is_cut, begins, goes_on}
+use Rattle.wef_deployments.specs.Worlds.{collector_begins, collector_goes_on, collector_stops, collector_is_cut, write_begins, forward_begins, serve_begins, source_goes_on, source_stops, source_is_cut, begins, goes_on}
+use Rattle.wef_deployments.specs.Hearing.{IsToAsked}
+use Rattle.wef_runs.proofs.Awaited.{AnswersAsked, run_asked}
+use Rattle.wef_runs.specs.Deeds.{Deed, Does}
+use Rattle.wef_runs.specs.Deeds.{Starts, Adds, Ends, Answers, Leaves, Requests, Takes}
 
 -- ---- new folders
 
@@ -64,23 +68,53 @@ new_kept (s ∷ names) (good, other, are) =
 
 -- ---- what comes next
 
-next_kept : {w next : World} → Next w next → IsKept w.state → IsKept next.state
-next_kept (collector_begins w command last account of none) kept = kept
-next_kept (collector_goes_on w deed deeds last on hears does) kept = deeds_keep.done w.state deed last kept hears does
-next_kept (collector_stops w) kept = kept
-next_kept (collector_is_cut w deed deeds last on hears cut) kept = deeds_keep.cut w.state deed last kept hears cut
-next_kept (write_begins w s slot last run there none) kept = kept
-next_kept (forward_begins w address s count slot last account there none) kept = kept
-next_kept (source_goes_on w s slot next deed deeds there on hears turns) kept = source_deeds_keep.done w.state s slot next deed kept there hears turns
-next_kept (source_stops w s slot there) kept = source_deeds_keep.ended w.state s slot kept there
-next_kept (source_is_cut w s slot next deed deeds there on hears broken) kept = source_deeds_keep.cut w.state s slot next deed kept there hears broken
+-- What is kept of a world, and that what is still to be done at the collector answers requests under names that read back.
+record IsWorldKept (w : World) : Type 0 where
+  kept : IsKept w.state
+  going : IfSome w.going AnswersAsked
 
-all_kept : {first w : World} → IsKept first.state → Reaches first w → IsKept w.state
-all_kept kept begins = kept
-all_kept kept (goes_on w next before step) = next_kept step (all_kept kept before)
+-- an answer that comes next is to such a request
+to_asked : (deed : Deed) (deeds : List Deed) → AnswersAsked (deed ∷ deeds) → IsToAsked deed
+to_asked Starts deeds answers = tt
+to_asked (Adds s) deeds answers = tt
+to_asked (Ends u) deeds answers = tt
+to_asked (Answers host heard moment id said) deeds answers = tt
+to_asked (Leaves heard moment) deeds answers = tt
+to_asked (Requests host r moment) deeds answers = tt
+to_asked (Takes waits answer moment) deeds answers = answers.0
+
+-- and so are those behind it
+then_asked : (state : State) (deed : Deed) (deeds : List Deed) (last : Rows) → IsKept state → Does deed state.collector.rows last → AnswersAsked (deed ∷ deeds) → AnswersAsked deeds
+then_asked state Starts deeds last kept does answers = answers
+then_asked state (Adds s) deeds last kept does answers = answers
+then_asked state (Ends u) deeds last kept does answers = answers
+then_asked state (Answers host heard moment id said) deeds last kept does answers = answers
+then_asked state (Leaves heard moment) deeds last kept does answers = answers
+then_asked state (Requests host r moment) deeds last kept does answers = answers (deeds_keep.asked state host r moment kept does.1)
+then_asked state (Takes waits answer moment) deeds last kept does answers = answers.1
+
+next_kept : {w next : World} → Next w next → IsWorldKept w → IsWorldKept next
+next_kept (collector_begins w command last account of none) is = record { kept = is.kept; going = run_asked account of }
+next_kept (collector_goes_on w deed deeds last on hears does) is =
+    let answers : AnswersAsked (deed ∷ deeds) = subst (λ (o : Option (List Deed)). IfSome o AnswersAsked) on is.going in
+    record { kept = deeds_keep.done w.state deed last is.kept (to_asked deed deeds answers) hears does; going = then_asked w.state deed deeds last is.kept does answers }
+next_kept (collector_stops w) is = record { kept = is.kept; going = tt }
+next_kept (collector_is_cut w deed deeds last on hears cut) is =
+    let answers : AnswersAsked (deed ∷ deeds) = subst (λ (o : Option (List Deed)). IfSome o AnswersAsked) on is.going in
+    record { kept = deeds_keep.cut w.state deed last is.kept (to_asked deed deeds answers) hears cut; going = tt }
+next_kept (write_begins w s slot last run there none) is = record { kept = is.kept; going = is.going }
+next_kept (forward_begins w address s count slot last account there none) is = record { kept = is.kept; going = is.going }
+next_kept (serve_begins w address s count slot last account there none) is = record { kept = is.kept; going = is.going }
+next_kept (source_goes_on w s slot next deed deeds there on hears turns) is = record { kept = source_deeds_keep.done w.state s slot next deed is.kept there hears turns; going = is.going }
+next_kept (source_stops w s slot there) is = record { kept = source_deeds_keep.ended w.state s slot is.kept there; going = is.going }
+next_kept (source_is_cut w s slot next deed deeds there on hears broken) is = record { kept = source_deeds_keep.cut w.state s slot next deed is.kept there hears broken; going = is.going }
+
+all_kept : {first w : World} → IsWorldKept first → Reaches first w → IsWorldKept w
+all_kept is begins = is
+all_kept is (goes_on w next before step) = next_kept step (all_kept is before)
 
 pub worlds_kept : (names : List (List ℕ)) (w : World) → AreSources names → Reaches (new_world names) w → IsKept w.state
-worlds_kept names w are reaches = all_kept (new_kept names are) reaches
+worlds_kept names w are reaches = (all_kept (record { kept = new_kept names are; going = tt }) reaches).kept
 
 pub deployments_are_safe : DeploymentsAreSafe
 deployments_are_safe names w are reaches = kept_is_safe w.state (worlds_kept names w are reaches)

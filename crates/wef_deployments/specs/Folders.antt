@@ -1,4 +1,4 @@
--- Runs of `write` and `forward` over a source's folder, as deeds.
+-- Runs of `write`, `forward` and `serve` over a source's folder, as deeds.
 use Rattle.std.proofs.Common.{inl, inr}
 use Rattle.std.specs.Prelude.{◌≡◌, ◌⊎◌, ℕ, ◌+◌, List, [], ◌∷◌, ◌++◌, length, map, None}
 use Rattle.wef_cli.specs.Runs.{Peers}
@@ -14,10 +14,12 @@ use Rattle.wef_keeper.specs.Keeping.{Store}
 use Rattle.wef_keeper.specs.Rows.{Rows}
 use Rattle.wef_machine.specs.States.{Slot}
 use Rattle.wef_running.specs.ByRows.{ForwardSays}
+use Rattle.wef_subscribing.specs.ByRows.{ServeSays}
 use Rattle.wef_source_log.specs.LogWindow as log
 use Rattle.wef_source_log.specs.LogWindow.{IsWindow, boot_of}
 use Rattle.wef_runs.specs.Forwarded.{acts_begun}
 use Rattle.wef_runs.specs.Runs.{Account}
+use Rattle.wef_runs.specs.Served.{acts_served_by}
 use Rattle.wef_deployments.specs.Sources.{SourceDeed, Turns}
 use Rattle.wef_deployments.specs.Sources.{StartsLog, StartsSource, Writes, Acts}
 
@@ -59,6 +61,18 @@ module _ (ending : Ending) (out : Told) (peers : Peers) (now : Store) (found las
 abbrev pub deeds_forwarded : {address s : List ℕ} {count : ℕ} {found last : Rows} → Account (the.Forward address s count) found last → List SourceDeed
 deeds_forwarded {address} {s} {count} {found} {last} account = deeds_forwarded_by account.ending account.out account.peers account.now found last address s count account.says
 
+-- ---- `serve`
+
+module _ (ending : Ending) (out : Told) (peers : Peers) (now : Store) (found last : Rows) where
+  abbrev pub deeds_served_by : (address : List ℕ) (count : ℕ)
+      → ServeSays address count ending out peers.moment peers.front_before peers.front_after peers.link_before peers.link_after now found last → List SourceDeed
+  deeds_served_by address count (inl nothing) = []
+  deeds_served_by address count (inr (inl refused)) = StartsLog ∷ []
+  deeds_served_by address count (inr (inr is)) = StartsSource ∷ map Acts (acts_served_by ending out peers now found last address count (inr (inr is)))
+
+abbrev pub deeds_served : {address s : List ℕ} {count : ℕ} {found last : Rows} → Account (the.Serve address s count) found last → List SourceDeed
+deeds_served {address} {s} {count} {found} {last} account = deeds_served_by account.ending account.out account.peers account.now found last address count account.says
+
 -- ---- the law
 
 -- deeds, one after the other
@@ -79,8 +93,9 @@ pub record AreDeeds (deeds : List SourceDeed) (slot : Slot) (last : Rows) : Type
   pub turned : AreTurned deeds slot next
   pub rows : next.place.rows ≡ last
 
--- Each run of `write` has an account; and the runs of both commands did their deeds, one after the other.
+-- Each run of `write` has an account; and the runs of all three commands did their deeds, one after the other.
 pub record FolderRunsAreDeeds : Type 0 where
   pub accounts : (ending : Ending) (input out : Told) (before now : Store) → WriteEnds ending input out before now → OverLast Writing before now
   pub writes : (found last : Rows) (run : Writing found last) (slot : Slot) → IsAtRest slot found → AreDeeds (deeds_written run) slot last
   pub forwards : (address s : List ℕ) (count : ℕ) (found last : Rows) (account : Account (the.Forward address s count) found last) (slot : Slot) → IsAtRest slot found → AreDeeds (deeds_forwarded account) slot last
+  pub serves : (address s : List ℕ) (count : ℕ) (found last : Rows) (account : Account (the.Serve address s count) found last) (slot : Slot) → IsAtRest slot found → AreDeeds (deeds_served account) slot last

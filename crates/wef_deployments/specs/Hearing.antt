@@ -1,9 +1,11 @@
 -- What a collector's deeds do to a world: what must have been said before a deed, and what it says. A world is one of the machine of
 -- schedules, of which it counts nothing what the collector remembers, or what is armed.
-use Rattle.std.specs.Prelude.{◌≡◌, ℕ, ◌≤◌, true, List, [], ◌∷◌, ◌++◌, Option, Some, None}
+use Rattle.std.specs.Prelude.{◌≡◌, ℕ, ◌≤◌, true, IfSome, List, [], ◌∷◌, ◌++◌, Option, Some, None}
 use Rattle.wef_base.specs.declared.moments.TheConstants.{LAST_MOMENT}
 use Rattle.wef_batch.specs.declared.items.Batch.{Batch}
+use Rattle.wef_collector.specs.Asking.{waiting_of}
 use Rattle.wef_collector.specs.FormsStay.{IsSoundBatch}
+use Rattle.wef_collector.specs.declared.asking.Request as asking
 use Rattle.wef_commands.specs.Laws.{can_start}
 use Rattle.wef_documents.specs.Kept.{read_kept}
 use Rattle.wef_documents.specs.Written.{document_text}
@@ -18,13 +20,13 @@ use Rattle.wef_ids.specs.declared.MessageId.{MessageId}
 use Rattle.wef_keeper.specs.Rows.{Rows}
 use Rattle.wef_machine.specs.States.{Slot, State, slot_of, with_foreign}
 use Rattle.wef_machine.specs.declared.messages.Message.{Message}
-use Rattle.wef_machine.specs.declared.messages.Message.TheVariants.{Ack, Beat, Events, Offers}
+use Rattle.wef_machine.specs.declared.messages.Message.TheVariants.{Ack, Beat, Events, Offers, Request}
 use Rattle.wef_replay.specs.Good.{is_source, is_subscription}
-use Rattle.wef_safety.specs.Kept.{AreAddressed, IsKept}
+use Rattle.wef_safety.specs.Kept.{AreAddressed, IsAsked, IsKept, IsSaid}
 use Rattle.wef_safety.specs.Safe.{WasSent}
 use Rattle.wef_source.specs.declared.messages.Delivery.{Delivery}
-use Rattle.wef_runs.specs.Deeds.{Deed, Does, IsCut}
-use Rattle.wef_runs.specs.Deeds.{Starts, Adds, Ends, Answers, Leaves}
+use Rattle.wef_runs.specs.Deeds.{Deed, Does, IsCut, IsDue}
+use Rattle.wef_runs.specs.Deeds.{Starts, Adds, Ends, Answers, Leaves, Requests, Takes}
 
 -- ---- what must have been said
 
@@ -77,6 +79,13 @@ Hears state (Adds s) = IsAddable s
 Hears state (Ends u) = Unit {0}
 Hears state (Answers host heard moment id said) = (moment ≤ LAST_MOMENT) × HearsAsked state heard.asked heard.relates × NamesHost host heard.asked
 Hears state (Leaves heard moment) = (moment ≤ LAST_MOMENT) × HearsAsked state heard.asked heard.relates
+Hears state (Requests host r moment) = IsHost host
+Hears state (Takes waits answer moment) = (moment ≤ LAST_MOMENT) × IsSaid answer
+
+-- an answer is to a request that waits under names that read back, or to none
+abbrev pub IsToAsked : Deed → Type 0
+IsToAsked (Takes waits answer moment) = IfSome waits IsAsked
+IsToAsked deed = Unit {0}
 
 -- ---- what is said
 
@@ -93,6 +102,7 @@ messages_said state asked relates id said = []
 
 abbrev pub messages_of : State → Deed → List Message
 messages_of state (Answers host heard moment id said) = messages_said state heard.asked heard.relates id said
+messages_of state (Requests host r moment) = to_declared (slot_of state r.source.name) (Request r.source.name r.id r.identifier r.body)
 messages_of state deed = []
 
 -- ---- the world behind a deed
@@ -126,5 +136,7 @@ after_cut state deed last = with_rows (named deed state) last
 
 -- What is kept of a world stays kept behind each deed of the collector, and behind one that is cut off anywhere.
 pub record DeedsKeep : Type 0 where
-  pub done : (state : State) (deed : Deed) (last : Rows) → IsKept state → Hears state deed → Does deed state.collector.rows last → IsKept (after_deed state deed last)
-  pub cut : (state : State) (deed : Deed) (last : Rows) → IsKept state → Hears state deed → IsCut deed state.collector.rows last → IsKept (after_cut state deed last)
+  pub done : (state : State) (deed : Deed) (last : Rows) → IsKept state → IsToAsked deed → Hears state deed → Does deed state.collector.rows last → IsKept (after_deed state deed last)
+  pub cut : (state : State) (deed : Deed) (last : Rows) → IsKept state → IsToAsked deed → Hears state deed → IsCut deed state.collector.rows last → IsKept (after_cut state deed last)
+  -- and a request for which its rows call waits under names that read back
+  pub asked : (state : State) (host : List ℕ) (r : asking.Request) (moment : ℕ) → IsKept state → IsDue state.collector.rows host r moment → IsAsked (waiting_of r)

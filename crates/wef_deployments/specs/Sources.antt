@@ -1,8 +1,11 @@
 -- What a declared source does to a world, by its folder: what each deed makes of its slot, what must have been said to it before, and
 -- what it says.
 use Rattle.std.specs.Prelude.{◌≡◌, ◌⊎◌, ℕ, ◌<◌, true, false, List, [], ◌∷◌, Option, Some, None}
+use Rattle.wef_bodies.specs.declared.bodies.Body.TheVariants as body
 use Rattle.wef_building.specs.declared.sessions.Session.{Session}
 use Rattle.wef_event.specs.Events.{Event}
+use Rattle.wef_front_source.specs.declared.hearing.Asked.{Asked}
+use Rattle.wef_front_source.specs.declared.hearing.Asked.TheVariants.{Begin}
 use Rattle.wef_ids.specs.IdTexts.{id_of_value}
 use Rattle.wef_ids.specs.declared.MessageId.{MessageId}
 use Rattle.wef_keeper.specs.Calls.{Makes}
@@ -20,7 +23,7 @@ use Rattle.wef_source_log.specs.Answers.{is_boot_full, next_boot, next_text, wri
 use Rattle.wef_source_log.specs.Histories.{extended}
 use Rattle.wef_source_log.specs.LogWindow.{boot_of, started}
 use Rattle.wef_runs.specs.Acts.{Act, IsActed}
-use Rattle.wef_runs.specs.Acts.{Asks, Adopts, Sends, Beats, Moves}
+use Rattle.wef_runs.specs.Acts.{Asks, Adopts, Sends, Beats, Moves, Replies, Leaves}
 
 -- ---- deeds
 
@@ -70,11 +73,19 @@ IsBroken (Acts act) slot next = next ≡ slot_left slot slot.place.rows None
 
 -- ---- what must have been said
 
+-- A wish to be sent events that reaches a source is one that the collector sent to it, maybe late or again; anybody may ask for
+-- anything else.
+abbrev pub HearsWish : State → List ℕ → Asked → Type 0
+HearsWish state s (Begin wish) = (id : MessageId) × (identifier : Option (List ℕ)) × WasSent state.messages (sent.Request s id identifier (body.Subscribe wish))
+HearsWish state s asked = Unit {0}
+
 -- Offers and acknowledgements that a source takes are ones that the collector gave to this source, maybe long ago; faults may come from
 -- anybody.
 abbrev pub HearsAct : State → List ℕ → Act → Type 0
 HearsAct state s (Adopts relates offers moment) = (id asked : MessageId) × WasSent state.messages (sent.Offers s id asked offers)
 HearsAct state s (Moves n) = (id relates : MessageId) × WasSent state.messages (sent.Ack s id relates) × (relates.value ≡ Some n)
+HearsAct state s (Replies heard moment) = HearsWish state s heard.asked
+HearsAct state s (Leaves heard moment) = HearsWish state s heard.asked
 HearsAct state s act = Unit {0}
 
 -- An event that is written is the one that its text says, and the boot number isn't at its greatest.

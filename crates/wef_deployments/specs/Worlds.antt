@@ -11,7 +11,7 @@ use Rattle.wef_machine.specs.States.{Slot, State, slot_of, start, with_messages,
 use Rattle.wef_replay.specs.Good.{is_among, is_source}
 use Rattle.wef_safety.specs.Laws.{IsStateSafe}
 use Rattle.wef_runs.specs.Deeds.{Deed, Does, IsCut}
-use Rattle.wef_deployments.specs.Folders.{Writing, deeds_forwarded, deeds_written}
+use Rattle.wef_deployments.specs.Folders.{Writing, deeds_forwarded, deeds_served, deeds_written}
 use Rattle.wef_deployments.specs.Hearing.{Hears, after_cut, after_deed}
 use Rattle.wef_runs.specs.Runs.{Account, OfCollector, deeds_of}
 use Rattle.wef_deployments.specs.Sources.{HearsAs, IsBroken, SourceDeed, Turns, says_as, slot_left}
@@ -61,11 +61,13 @@ pub data Next : World → World → Type 0 where
   -- it is killed in a deed
   collector_is_cut : (w : World) (deed : Deed) (deeds : List Deed) (last : Rows) → w.going ≡ Some (deed ∷ deeds) → Hears w.state deed → IsCut deed w.state.collector.rows last
       → Next w (with_going w (after_cut w.state deed last) None)
-  -- `write` or `forward` begins in the folder of a source
+  -- `write`, `forward` or `serve` begins in the folder of a source
   write_begins : (w : World) (s : List ℕ) (slot : Slot) (last : Rows) (run : Writing slot.place.rows last) → slot_of w.state s ≡ Some slot → w.turns s ≡ None
       → Next w (with_turns w w.state s (Some (deeds_written run)))
   forward_begins : (w : World) (address s : List ℕ) (count : ℕ) (slot : Slot) (last : Rows) (account : Account (the.Forward address s count) slot.place.rows last) → slot_of w.state s ≡ Some slot → w.turns s ≡ None
       → Next w (with_turns w w.state s (Some (deeds_forwarded account)))
+  serve_begins : (w : World) (address s : List ℕ) (count : ℕ) (slot : Slot) (last : Rows) (account : Account (the.Serve address s count) slot.place.rows last) → slot_of w.state s ≡ Some slot → w.turns s ≡ None
+      → Next w (with_turns w w.state s (Some (deeds_served account)))
   -- the run there does its next deed
   source_goes_on : (w : World) (s : List ℕ) (slot next : Slot) (deed : SourceDeed) (deeds : List SourceDeed) → slot_of w.state s ≡ Some slot → w.turns s ≡ Some (deed ∷ deeds)
       → HearsAs w.state s slot deed → Turns deed slot next → Next w (with_turns w (with_messages (with_slot w.state s next) (says_as s slot deed)) s (Some deeds))

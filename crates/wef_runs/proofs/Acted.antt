@@ -132,7 +132,7 @@ module _ (rows : Rows) where
   -- ---- all messages
 
   module _ (clock : Option ℕ) where
-    one_acted : (u : List ℕ) (result : Result Exchange FrontFault) (before now : Running) (is : IsSentOver rows clock u result before now) → AreActed rows (acts_of_one rows clock u result before now is) before.memory now.memory
+    pub one_acted : (u : List ℕ) (result : Result Exchange FrontFault) (before now : Running) (is : IsSentOver rows clock u result before now) → AreActed rows (acts_of_one rows clock u result before now is) before.memory now.memory
     one_acted u result before now (is, stand) = forwarded now.store.rows stand before.memory now.memory u is.moment before.link now.link is.answer is.forwards
 
     sent_acted : (plan : Plan) (xs : List (List ℕ × Exchange)) (before now : Running) (are : AreSentBy (IsSentOver rows clock) plan xs before now)
@@ -142,7 +142,7 @@ module _ (rows : Rows) where
         joined (acts_of_one rows clock x.0 (Ok x.1) before mid sent) (acts_of_sent rows clock (behind x.1 plan) xs mid now more) before.memory mid.memory now.memory
         (one_acted x.0 (Ok x.1) before mid sent) (sent_acted (behind x.1 plan) xs mid now more)
 
-    end_acted : (o : Option (List ℕ)) (text : List ℕ) (ending : Ending) (out : Told) (before now : Running) (stops : EndsBeforeBy (IsSentOver rows clock) o text ending out before now)
+    pub end_acted : (o : Option (List ℕ)) (text : List ℕ) (ending : Ending) (out : Told) (before now : Running) (stops : EndsBeforeBy (IsSentOver rows clock) o text ending out before now)
         → AreActed rows (acts_of_end rows clock o text ending out before now stops) before.memory now.memory
     end_acted None text ending out before now (done, same) = ap (λ (r : Running). r.memory) same
     end_acted (Some u) text ending out before now (inl (fault, sent, is, said)) = one_acted u (Err fault) before now sent

@@ -1,16 +1,24 @@
 -- The deeds of a run, by its account, and what any runs keep.
-use Rattle.std.proofs.Common.{inl, inr, ℕ, ◌+◌, Bool, true, false, cond, List, [], ◌∷◌, ◌++◌, ap, refl, subst, nat_lt}
-use Rattle.std.specs.Prelude.{Option, Ok, Err}
+use Rattle.std.proofs.Common.{◌≡◌, ◌⊎◌, inl, inr, ℕ, ◌+◌, Bool, true, false, cond, List, [], ◌∷◌, ◌++◌, ap, refl, subst, nat_lt}
+use Rattle.std.specs.Prelude.{Option, Some, None, Result, Ok, Err}
 use Rattle.wef_base.specs.declared.numbers.TheConstants.{MAX}
 use Rattle.wef_cli.specs.Leaving.{Says}
 use Rattle.wef_cli.specs.Runs.{Peers}
 use Rattle.wef_cli.specs.declared.command.Command.{Command}
 use Rattle.wef_cli.specs.declared.command.Command.TheVariants as the
 use Rattle.wef_collector.specs.Boots.{boot_of, memory_begun}
-use Rattle.wef_collector.specs.Calls.{boot_effect}
+use Rattle.wef_collector.specs.Asking.{next_request}
+use Rattle.wef_collector.specs.Calls.{boot_effect, no_effect}
+use Rattle.wef_collector.specs.Memories.{waiting_for}
+use Rattle.wef_collector.specs.Responses.{answered_of, waiting_effect}
 use Rattle.wef_collector.specs.Taken.{put}
+use Rattle.wef_collector.specs.declared.asking.Request.{Request}
+use Rattle.wef_collector.specs.declared.memories.Memory.{Memory}
+use Rattle.wef_collector.specs.declared.responses.Answered.{Answered}
+use Rattle.wef_collector.specs.declared.responses.Response.{Response}
 use Rattle.wef_collector_rows.specs.Faults.{collector_store}
 use Rattle.wef_collector_rows.specs.Keys.{boot_key}
+use Rattle.wef_collector_rows.specs.declared.faults.CollectorFault.{CollectorFault}
 use Rattle.wef_collector_rows.specs.declared.faults.CollectorFault.TheVariants as faults
 use Rattle.wef_collector_serving.specs.ByRows.{AnswersBy, Kept, LeavesBy}
 use Rattle.wef_commands.specs.Endings.{Told}
@@ -18,23 +26,35 @@ use Rattle.wef_commands.specs.Laws.{StartsAtMost, started}
 use Rattle.wef_commands.specs.declared.ending.Ending.{Ending}
 use Rattle.wef_commands.specs.declared.ending.Ending.TheVariants as ends
 use Rattle.wef_connections.specs.Opening.{with_address}
+use Rattle.wef_front_collector.specs.HeardResponses as responses
+use Rattle.wef_front_collector.specs.HeardResponses.{response_told}
+use Rattle.wef_front_collector.specs.declared.listening.Hears as listening
+use Rattle.wef_ids.specs.declared.MessageId.{MessageId}
 use Rattle.wef_keeper.specs.Calls.{Makes, MayLeave}
 use Rattle.wef_keeper.proofs.Going.{may_leave}
 use Rattle.wef_keeper.specs.Keeping.{Store}
 use Rattle.wef_keeper.specs.Rows.{Rows}
 use Rattle.wef_machine.specs.Collecting.{reply_id}
 use Rattle.wef_ports.specs.Telling as ports
+use Rattle.wef_requesting.specs.ByRows as requesting
+use Rattle.wef_requesting.specs.ByRows.{AsksOver, GetsOver, HearsOver, OutcomesOver, RequestsOver, SendsOver, TakesOver}
+use Rattle.wef_requesting.specs.declared.requesting.Outcome.{Outcome}
+use Rattle.wef_requesting.specs.declared.requesting.RequestFault.{RequestFault}
+use Rattle.wef_requesting.specs.declared.requesting.RequestFault.TheVariants as request_faults
+use Rattle.wef_requesting.specs.declared.requesting.Sent.{Sent}
 use Rattle.wef_running.specs.ByRows.{AreServedBy, CollectSays, IsNotStarted, begun}
 use Rattle.wef_running.specs.ByRows.{none_by, one_by}
 use Rattle.wef_running.specs.Collecting.{ListeningEndsBy, ServingEndsBy, TellingEndsBy, listening_line}
 use Rattle.wef_serving.specs.Serving.{AnswersAt, LeavesAt, Responds, RespondsInTurn}
 use Rattle.wef_serving.specs.Serving.{to_none, to_one_more}
 use Rattle.wef_serving.specs.declared.ends.ConnectionEnd.{ConnectionEnd}
+use Rattle.wef_subscribing.specs.ByRows.{IsAsking, IsRequestedOver, RequestSays}
+use Rattle.wef_subscribing.specs.Requesting.{AreRequestedBy, EndsAtBy, StopsBy}
 use Rattle.wef_runs.proofs.Taken.{all_keep, all_later, all_stay, both_keep, both_stay, cut_stays}
 use Rattle.wef_runs.specs.Deeds.{AreDone, Deed, Does, Stay}
-use Rattle.wef_runs.specs.Deeds.{Starts, Answers, Leaves}
+use Rattle.wef_runs.specs.Deeds.{Starts, Answers, Leaves, Takes}
 use Rattle.wef_runs.specs.Laws.{AreKept, CollectorRunsAreDeeds, RunsKeepTaken, TakenStaysKept}
-use Rattle.wef_runs.specs.Runs.{HaveRun, OfCollector, deeds_by, deeds_collected, deeds_in_turn, deeds_listening, deeds_of, deeds_of_connections, deeds_of_request, deeds_served, deeds_told}
+use Rattle.wef_runs.specs.Runs.{HaveRun, OfCollector, asking, deeds_answered, deeds_asked, deeds_asking, deeds_at_end, deeds_back, deeds_behind, deeds_by, deeds_collected, deeds_in_turn, deeds_listening, deeds_next, deeds_of, deeds_of_connections, deeds_of_request, deeds_of_sent, deeds_requested, deeds_sent, deeds_served, deeds_stopping, deeds_told}
 use Rattle.wef_runs.specs.Runs.{none_run, one_ended, one_killed}
 
 -- ---- deeds joined
@@ -94,6 +114,82 @@ unstarted : (ending : Ending) (out : Told) (f g : ports.Told) (found last : Rows
 unstarted ending out f g found last (unwritten, front, inl (is, same)) = inl same
 unstarted ending out f g found last (unwritten, front, inr (fault, is, of_start, goes)) = start_cut found last (may_leave collector_store boot_effect memory_begun (Err fault) found last goes)
 
+-- ---- `request`
+
+-- an answer that is taken leaves the rows, or has changed them
+taken_cut : (done : Result Answered CollectorFault) (relates : MessageId) (answer : Response) (moment : ℕ) (memory memory_now : Memory) (found left : Rows)
+    → TakesOver done relates answer moment memory memory_now found left → MayLeave (waiting_effect (waiting_for memory relates.value) answer moment) left found
+taken_cut done relates answer moment memory memory_now found left takes =
+    may_leave collector_store (waiting_effect (waiting_for memory relates.value) answer moment) (λ _. answered_of answer) done found left takes.0
+
+told_back : (o : Option responses.Told) (h : listening.Hears) (moment : ℕ) (memory memory_now : Memory) (found left : Rows) → HearsOver o h moment memory memory_now found left
+    → AreDone (deeds_answered memory moment o) found left
+told_back None h moment memory memory_now found left (unread, kept, same) = same
+told_back (Some t) h moment memory memory_now found left (done, takes, known, is) =
+    alone (Takes (waiting_for memory t.0.value) t.1 moment) found left (taken_cut done t.0 t.1 moment memory memory_now found left takes)
+
+back_done : (envelope : Option (List ℕ)) (h : Option listening.Hears) (moment : ℕ) (memory memory_now : Memory) (found left : Rows) → GetsOver envelope moment memory memory_now found left h
+    → AreDone (deeds_back memory moment envelope) found left
+back_done None h moment memory memory_now found left (none, kept, same) = same
+back_done (Some envelope) made moment memory memory_now found left (h, hears, is) = told_back (response_told moment envelope) h moment memory memory_now found left hears
+
+behind_done : (r : Request) (moment : ℕ) (before now : requesting.Kept) (result : Result Outcome RequestFault) (outcomes : OutcomesOver r moment before now result)
+    → AreDone (deeds_behind r moment before now result outcomes) before.rows now.rows
+behind_done r moment before now (Ok outcome) (envelope, made, (h, gets, is)) = back_done envelope h moment before.memory now.memory before.rows now.rows gets
+behind_done r moment before now (Err request_faults.StoreFailed) (envelope, made, (h, gets, is)) = back_done envelope h moment before.memory now.memory before.rows now.rows gets
+behind_done r moment before now (Err request_faults.LinkFailed) broken = broken.2
+behind_done r moment before now (Err request_faults.NoMemory) (inl broken) = broken.2
+behind_done r moment before now (Err request_faults.NoMemory) (inr (None, made, none)) = absurd none
+behind_done r moment before now (Err request_faults.NoMemory) (inr (Some envelope, made, inl same)) = same.1
+behind_done r moment before now (Err request_faults.NoMemory) (inr (Some envelope, made, inr (relates, answer, told, takes))) =
+    alone (Takes (waiting_for before.memory relates.value) answer moment) before.rows now.rows (taken_cut (Err faults.NoMemory) relates answer moment before.memory now.memory before.rows now.rows takes)
+
+-- the request that is due, or none: no row changes
+due_same : (host : List ℕ) (moment : ℕ) (asked : Result (Option Request) CollectorFault) (memory memory_now : Memory) (found left : Rows) → AsksOver host moment asked memory memory_now found left → left ≡ found
+due_same host moment asked memory memory_now found left asks =
+    by (may_leave collector_store no_effect (λ rows. next_request rows memory.waiting memory.ids host moment) asked found left asks.0)
+  where
+    by : MayLeave no_effect left found → left ≡ found
+    by (inl same) = same
+    by (inr made) = made
+
+module _ (host : List ℕ) (moment : ℕ) where
+  sent_done : (r : Request) (result : Result Outcome RequestFault) (before now : requesting.Kept) (is : SendsOver host moment r before now result)
+      → AreDone (deeds_sent host moment r result before now is) before.rows now.rows
+  sent_done r result before now is = (
+    is.rows,
+    (due_same host moment (Ok (Some r)) before.memory is.memory before.rows is.rows is.asks, (before.memory.waiting, before.memory.ids, is.asks.0.1)),
+    behind_done r moment (record { rows = is.rows; memory = is.memory; link = before.link }) now result is.outcomes,
+  )
+
+  next_done : (result : Result (Option Sent) RequestFault) (before now : requesting.Kept) (requests : RequestsOver host moment before now result)
+      → AreDone (deeds_next host moment result before now requests) before.rows now.rows
+  next_done (Ok None) before now none = due_same host moment (Ok None) before.memory now.memory before.rows now.rows none.0
+  next_done (Ok (Some sent)) before now is = sent_done sent.request (Ok sent.outcome) before now is
+  next_done (Err fault) before now (inl (refusal, none, is)) = due_same host moment (Err refusal) before.memory now.memory before.rows now.rows none.0
+  next_done (Err fault) before now (inr (r, is)) = sent_done r (Err fault) before now is
+
+module _ (host : List ℕ) (clock : Option ℕ) where
+  requested_done : (result : Result (Option Sent) RequestFault) (before now : requesting.Kept) (is : IsRequestedOver clock host result before now)
+      → AreDone (deeds_requested host clock result before now is) before.rows now.rows
+  requested_done result before now is = next_done host is.moment result before now is.requests
+
+  all_requested : (xs : List Sent) (before now : requesting.Kept) (are : AreRequestedBy (IsRequestedOver clock host) xs before now) → AreDone (deeds_of_sent host clock xs before now are) before.rows now.rows
+  all_requested [] before now same = ap (λ (kept : requesting.Kept). kept.rows) same
+  all_requested (x ∷ xs) before now (mid, is, more) =
+      joined (deeds_requested host clock (Ok (Some x)) before mid is) (deeds_of_sent host clock xs mid now more) before.rows mid.rows now.rows (requested_done (Ok (Some x)) before mid is) (all_requested xs mid now more)
+
+  end_done : (text : List ℕ) (ending : Ending) (out : Told) (before now : requesting.Kept) (ends_so : EndsAtBy (IsRequestedOver clock host) text ending out before now)
+      → AreDone (deeds_at_end host clock text ending out before now ends_so) before.rows now.rows
+  end_done text ending out before now (inl (fault, is, ended, told)) = requested_done (Err fault) before now is
+  end_done text ending out before now (inr (sent, is, untold)) = requested_done (Ok (Some sent)) before now is
+
+  stopping_done : (left : ℕ) (text : List ℕ) (ending : Ending) (out : Told) (before now : requesting.Kept) (stops : StopsBy (IsRequestedOver clock host) left text ending out before now)
+      → AreDone (deeds_stopping host clock left text ending out before now stops) before.rows now.rows
+  stopping_done left text ending out before now (inl (inl (all, same), done)) = ap (λ (kept : requesting.Kept). kept.rows) same
+  stopping_done left text ending out before now (inl (inr (some, none), done)) = requested_done (Ok None) before now none
+  stopping_done left text ending out before now (inr (some, ends_so)) = end_done text ending out before now ends_so
+
 -- ---- all commands
 
 module _ (ending : Ending) (input out : Told) (peers : Peers) (before now : Store) (found last : Rows) where
@@ -102,6 +198,19 @@ module _ (ending : Ending) (input out : Told) (peers : Peers) (before now : Stor
   collected_done address count (inl refused) = alone Starts found last (unstarted ending out peers.front_before peers.front_after found last refused)
   collected_done address count (inr is) =
       (started found, inr refl, listening_done last peers.moment address count ending out peers.front_before peers.front_after (begun found) (record { rows = last; memory = is.memory; errors = is.errors }) is.listens)
+
+  asking_done : (host : List ℕ) (count : ℕ) (is : IsAsking host count ending out peers.moment peers.link_before peers.link_after found last)
+      → AreDone (deeds_asking ending input out peers before now found last host count is) (started found) last
+  asking_done host count is =
+      let behind_all : requesting.Kept = record { rows = last; memory = is.memory; link = peers.link_after } in
+      joined _ _ (started found) is.asks.mid.rows last (all_requested host peers.moment is.asks.sent (asking found peers.link_before) is.asks.mid is.asks.are_sent)
+      (stopping_done host peers.moment _ _ ending out is.asks.mid behind_all is.asks.stops)
+
+  asked_done : (host : List ℕ) (count : ℕ) (says : (last ≡ found) ⊎ RequestSays host count ending out peers.moment peers.link_before peers.link_after found last)
+      → AreDone (deeds_asked ending input out peers before now found last host count says) found last
+  asked_done host count (inl same) = same
+  asked_done host count (inr (inl (fault, is, of_start, unwritten, unused, goes))) = alone Starts found last (start_cut found last (may_leave collector_store boot_effect memory_begun (Err fault) found last goes))
+  asked_done host count (inr (inr is)) = (started found, inr refl, asking_done host count is)
 
   account_done : (command : Command) (says : Says command ending input out peers before now found last) → OfCollector command → AreDone (deeds_by ending input out peers before now found last command says) found last
   account_done the.Add (inl same) of = same
@@ -114,6 +223,7 @@ module _ (ending : Ending) (input out : Told) (peers : Peers) (before now : Stor
   account_done (the.Events u s c) says of = alone Starts found last says
   account_done (the.Status u) says of = alone Starts found last says
   account_done (the.Collect address count) says of = collected_done address count says
+  account_done (the.Request address count) says of = asked_done address count says
   account_done _ says of = absurd of
 
 pub run_done : CollectorRunsAreDeeds

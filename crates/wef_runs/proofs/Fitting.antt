@@ -1,5 +1,5 @@
 -- The batches of a source fit its histories, act by act, and its sessions rise by acknowledgements alone.
-use Rattle.std.proofs.Common.{◌≡◌, ◌⊎◌, inl, inr, ℕ, ◌<◌, ◌≤◌, Bool, true, false, cond, List, [], ◌∷◌, length, ap, sym, refl, subst, arith}
+use Rattle.std.proofs.Common.{◌≡◌, ◌⊎◌, inl, inr, ℕ, ◌+◌, ◌<◌, ◌≤◌, Bool, true, false, cond, List, [], ◌∷◌, length, ap, sym, refl, subst, arith}
 use Rattle.std.proofs.lemmas.Bool.{cond_both}
 use Rattle.std.proofs.lemmas.List.Elements.{All-contains_itself, All-weaker, recursion_from_All}
 use Rattle.std.specs.Cmp.Lexicographic.{slice_cmp}
@@ -21,6 +21,13 @@ use Rattle.wef_building.specs.declared.sessions.Session.{Session}
 use Rattle.wef_eventing.specs.Addresses.{subscription_in}
 use Rattle.wef_eventing.specs.declared.offers.Offer.{Offer}
 use Rattle.wef_eventing.specs.declared.offers.Subscribe.{Subscribe}
+use Rattle.wef_front_source.specs.Replies.{answered_in}
+use Rattle.wef_front_source.specs.Steps.{begun_by, done_by, done_where, said_by}
+use Rattle.wef_front_source.specs.declared.hearing.Asked.{Asked}
+use Rattle.wef_front_source.specs.declared.hearing.Asked.TheVariants.{Refused, Begin, Manage}
+use Rattle.wef_front_source.specs.declared.hearing.Wants.TheVariants as wants
+use Rattle.wef_front_source.specs.declared.saying.Said.{Said}
+use Rattle.wef_front_source.specs.declared.saying.Said.TheVariants as said
 use Rattle.wef_ids.specs.declared.FaultName.{FaultName}
 use Rattle.wef_ids.specs.declared.MessageId.{MessageId}
 use Rattle.wef_keeper.specs.Rows.{Rows}
@@ -30,12 +37,12 @@ use Rattle.wef_safety.proofs.LowerFacts.{lower}
 use Rattle.wef_safety.proofs.Sent.{all_map}
 use Rattle.wef_safety.proofs.Sessions.{all_changed, all_filtered, all_with_session, all_without, equal_numbers, first_is, with_channels_number}
 use Rattle.wef_source.specs.Answers.{WhereThere}
-use Rattle.wef_source.specs.Machine.{End, acknowledged_in, adopted, has_caught_up, is_idle, is_spent, is_unreachable, lost_in, next_id, refused_in, sent_to}
-use Rattle.wef_source.specs.Sessions.{acknowledged, is_leased, is_named, is_outstanding, moved_by, sending, session_from, session_of, settled, waits_for, with_changed, with_offered, with_offers, without}
+use Rattle.wef_source.specs.Machine.{End, acknowledged_in, adopted, drawn_in, has_caught_up, is_idle, is_spent, is_unreachable, lease_of, lost_in, next_id, refused_in, sent_to}
+use Rattle.wef_source.specs.Sessions.{acknowledged, is_leased, is_leased_as, is_named, is_outstanding, moved_by, prolonged, sending, session_from, session_leased, session_of, settled, waits_for, with_changed, with_offered, with_offers, without}
 use Rattle.wef_source_log.specs.Histories.{Histories, history}
 use Rattle.wef_source_log.specs.LogWindow.{IsWindow}
 use Rattle.wef_runs.specs.Acts as acts
-use Rattle.wef_runs.specs.Acts.{Act, AreActed, BeginWithin, HasStood, IsActed, IsRaised, MayBegin, MayRaise, OfEach, Rises, SendsFitting}
+use Rattle.wef_runs.specs.Acts.{Act, AreActed, BeginWithin, BeginsWith, HasStood, IsActed, IsRaised, MayBegin, MayRaise, OfEach, Rises, SendsFitting, WishesWithin}
 
 -- ---- lists of sessions
 
@@ -68,6 +75,48 @@ refused_to : (P Q : Session → Type 0) (fault : FaultName) (id : ℕ) → ((s :
     → AllByRecursion Q (cond (is_unreachable fault) (without (waits_for id) ss) (with_changed (waits_for id) settled ss))
 refused_to P Q fault id stays settles ss all =
     cond_both (is_unreachable fault) _ _ (AllByRecursion Q) (λ ends. all_map P Q stays _ (all_without P (waits_for id) ss all)) (λ stands. changed_to P Q (waits_for id) settled stays (λ s passes is. settles s is) ss all)
+
+-- ---- what a collector asks
+
+-- each session behind what was asked is one that was there, maybe prolonged, or begins with the wish
+module _ (P Q : Session → Type 0) (end : End) (asked : Asked) (moment : ℕ) (stays : (s : Session) → P s → Q s) (prolongs : (expiry : ℕ) (s : Session) → P s → Q (prolonged expiry s))
+    (begins : (s : Session) → BeginsWith asked moment s → Q s) (all : AllByRecursion P end.sessions) where
+  stay : AllByRecursion Q end.sessions
+  stay = all_map P Q stays end.sessions all
+
+  begun_to : (wish : Subscribe) → ((s : Session) → BeginsWith (Begin wish) moment s → Q s) → (o : Option (List ℕ)) → subscription_in wish.notify_to ≡ o → AllByRecursion Q (begun_by end wish moment o).sessions
+  begun_to wish begins_so None leads = stay
+  begun_to wish begins_so (Some u) leads =
+      let lease = lease_of (next_id end) wish moment in
+      all_with_session Q end.sessions (session_leased moment wish lease u) (begins_so (session_leased moment wish lease u) (lease, leads, refl)) stay
+
+  done_to : (says : Said) → AllByRecursion Q (done_where says end asked moment).sessions
+  done_to (said.Fault name) = stay
+  done_to said.Spent = stay
+  done_to (said.Done answer) = by asked begins
+    where
+      by : (asks : Asked) → ((s : Session) → BeginsWith asks moment s → Q s) → AllByRecursion Q (done_where (said.Done answer) end asks moment).sessions
+      by (Refused name) begins_so = stay
+      by (Manage identifier (wants.Renew expires)) begins_so =
+          changed_to P Q (is_leased_as identifier) (prolonged (moment + expires)) stays (λ s passes is. prolongs (moment + expires) s is) end.sessions all
+      by (Manage identifier wants.GetStatus) begins_so = stay
+      by (Manage identifier wants.Unsubscribe) begins_so = all_map P Q stays _ (all_without P (is_leased_as identifier) end.sessions all)
+      by (Manage identifier (wants.Unread name)) begins_so = stay
+      by (Begin wish) begins_so = begun_to wish begins_so (subscription_in wish.notify_to) refl
+
+  -- the answer draws an id at most
+  answered_to : (then_on : End) (says : Said) → AllByRecursion Q then_on.sessions → AllByRecursion Q (answered_in then_on says).sessions
+  answered_to then_on (said.Done answer) so = so
+  answered_to then_on (said.Fault name) so = cond_both (is_spent then_on) then_on (drawn_in then_on) (λ (e : End). AllByRecursion Q e.sessions) (λ spent. so) (λ left. so)
+  answered_to then_on said.Spent so = so
+
+  replied_to : AllByRecursion Q (answered_in (done_by end asked moment) (said_by end asked moment)).sessions
+  replied_to = answered_to (done_by end asked moment) (said_by end asked moment) (done_to (said_by end asked moment))
+
+  left_to : (next : End) → (next ≡ end) ⊎ (next ≡ done_by end asked moment) ⊎ (next ≡ answered_in (done_by end asked moment) (said_by end asked moment)) → AllByRecursion Q next.sessions
+  left_to next (inl same) = subst (λ (e : End). AllByRecursion Q e.sessions) (sym same) stay
+  left_to next (inr (inl done)) = subst (λ (e : End). AllByRecursion Q e.sessions) (sym done) (done_to (said_by end asked moment))
+  left_to next (inr (inr replied)) = subst (λ (e : End). AllByRecursion Q e.sessions) (sym replied) replied_to
 
 -- ---- within the histories
 
@@ -122,6 +171,16 @@ module _ (rows : Rows) (all : Histories) (capacity boot : ℕ) (some : 0 < capac
     awaited = tt;
   }
 
+  prolonged_inside : (expiry : ℕ) (session : Session) → IsInside session → IsInside (prolonged expiry session)
+  prolonged_inside expiry session inside = record { positions = inside.positions; awaited = inside.awaited }
+
+  -- so does one that begins with a wish
+  wished_inside : (asked : Asked) (moment : ℕ) → WishesWithin all asked → (session : Session) → BeginsWith asked moment session → IsInside session
+  wished_inside (Refused name) moment within session none = absurd none
+  wished_inside (Manage identifier wanted) moment within session none = absurd none
+  wished_inside (Begin wish) moment within session (lease, leads, is) =
+      let begun = begins_inside moment wish session.name within in subst IsInside (sym is) (record { positions = begun.positions; awaited = tt })
+
   -- a session that sends something which reads no further than the histories
   sends_inside : (end : End) (u : List ℕ) (to : Marks) (moment : ℕ) → AreWithin to all → AllByRecursion IsInside end.sessions → AllByRecursion IsInside (sent_to end u to moment).sessions
   sends_inside end u to moment within inside =
@@ -152,6 +211,10 @@ module _ (rows : Rows) (all : Histories) (capacity boot : ℕ) (some : 0 < capac
   act_inside (acts.Moves id) end next acted within inside = sessions_are IsInside (acknowledged_in end id) next acted (all_changed IsInside (waits_for id) acknowledged (λ s passes is. acknowledged_inside s is) end.sessions inside)
   act_inside (acts.Refuses id fault) end next acted within inside = sessions_are IsInside (refused_in end id fault) next acted (refused_to IsInside IsInside fault id (λ s is. is) settled_inside end.sessions inside)
   act_inside (acts.Loses u) end next acted within inside = sessions_are IsInside (lost_in end u) next acted (all_changed IsInside (is_named u) settled (λ s passes is. settled_inside s is) end.sessions inside)
+  act_inside (acts.Replies heard moment) end next acted within inside =
+      sessions_are IsInside _ next acted (replied_to IsInside IsInside end heard.asked moment (λ s is. is) prolonged_inside (wished_inside heard.asked moment within) inside)
+  act_inside (acts.Leaves heard moment) end next acted within inside =
+      left_to IsInside IsInside end heard.asked moment (λ s is. is) prolonged_inside (wished_inside heard.asked moment within) inside next acted
 
   act_fits : (act : Act) (end next : End) → IsActed rows act end next → AllByRecursion IsInside end.sessions → SendsFitting rows all capacity act end next
   act_fits acts.Asks end next acted inside = tt
@@ -166,6 +229,8 @@ module _ (rows : Rows) (all : Histories) (capacity boot : ℕ) (some : 0 < capac
   act_fits (acts.Moves id) end next acted inside = tt
   act_fits (acts.Refuses id fault) end next acted inside = tt
   act_fits (acts.Loses u) end next acted inside = tt
+  act_fits (acts.Replies heard moment) end next acted inside = tt
+  act_fits (acts.Leaves heard moment) end next acted inside = tt
 
   pub all_fit : (done : List Act) (end last : End) (acted : AreActed rows done end last) → AllByRecursion (BeginWithin all) done → AllByRecursion IsInside end.sessions → OfEach (SendsFitting rows all capacity) rows done end last acted
   all_fit [] end last same within inside = tt
@@ -244,6 +309,15 @@ module _ (rows : Rows) where
       let act = acts.Loses u in
       stand_as act end next _ (ap (λ (e : End). e.sessions) acted)
       (changed_to (Contains end.sessions) (Stands act end) (is_named u) settled (stays_so act end) (λ s passes is_one. stays act end s (settled s) is_one refl refl) end.sessions (each_of end.sessions))
+  act_rises (acts.Replies heard moment) end next acted =
+      let act = acts.Replies heard moment in
+      stand_as act end next _ (ap (λ (e : End). e.sessions) acted)
+      (replied_to (Contains end.sessions) (Stands act end) end heard.asked moment (stays_so act end) (λ expiry s is_one. stays act end s (prolonged expiry s) is_one refl refl) (λ s begins. inr begins)
+      (each_of end.sessions))
+  act_rises (acts.Leaves heard moment) end next acted =
+      let act = acts.Leaves heard moment in
+      left_to (Contains end.sessions) (Stands act end) end heard.asked moment (stays_so act end) (λ expiry s is_one. stays act end s (prolonged expiry s) is_one refl refl) (λ s begins. inr begins)
+      (each_of end.sessions) next acted
 
   pub all_rise : (done : List Act) (end last : End) (acted : AreActed rows done end last) → OfEach Rises rows done end last acted
   all_rise [] end last same = tt

@@ -28,7 +28,7 @@ use Rattle.wef_runs.specs.Acts.{BeginWithin}
 use Rattle.wef_runs.specs.Forwarded.{ForwardsFit, HasForwarded, acts_by}
 
 -- a start leaves the window, under the same boot number or the next
-start_window : (found last : Rows) (all : Histories) (boot : ℕ) → IsWindow found all LOG_CAPACITY boot → MayLeave (λ rows. start_effect rows LOG_CAPACITY) last found
+pub start_window : (found last : Rows) (all : Histories) (boot : ℕ) → IsWindow found all LOG_CAPACITY boot → MayLeave (λ rows. start_effect rows LOG_CAPACITY) last found
     → IsWindow last all LOG_CAPACITY boot ⊎ IsWindow last all LOG_CAPACITY (boot + 1)
 start_window found last all boot window (inl same) = inl (subst (λ (rows : Rows). IsWindow rows all LOG_CAPACITY boot) (sym same) window)
 start_window found last all boot window (inr made) = by (is_boot_full found) made
@@ -39,7 +39,7 @@ start_window found last all boot window (inr made) = by (is_boot_full found) mad
     by false made = inr (subst (λ (rows : Rows). IsWindow rows all LOG_CAPACITY (boot + 1)) (sym made) (starts_keep found all LOG_CAPACITY boot window))
 
 -- where nothing was asked or sent
-nothing_forwarded : (all : Histories) (boot : ℕ) (found last : Rows) → IsWindow last all LOG_CAPACITY boot ⊎ IsWindow last all LOG_CAPACITY (boot + 1) → HasForwarded all boot found last []
+pub nothing_forwarded : (all : Histories) (boot : ℕ) (found last : Rows) → IsWindow last all LOG_CAPACITY boot ⊎ IsWindow last all LOG_CAPACITY (boot + 1) → HasForwarded all boot found last []
 nothing_forwarded all boot found last window = record { window = window; end = start_of (next_boot found); acted = refl; fit = tt; rise = tt }
 
 module _ (ending : Ending) (out : Told) (peers : Peers) (now : Store) (found last : Rows) (all : Histories) (boot : ℕ) (window : IsWindow found all LOG_CAPACITY boot) (address s : List ℕ) (count : ℕ) where

@@ -1,7 +1,9 @@
 pub mod Accounts
 pub mod Acted
+pub mod Awaited
 pub mod Done
 pub mod Fitting
 pub mod Forwarded
 pub mod Recorded
+pub mod Served
 pub mod Taken

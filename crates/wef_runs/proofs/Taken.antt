@@ -1,13 +1,17 @@
 -- What a collector took is kept, deed by deed.
 use Rattle.std.proofs.Common.{◌≡◌, ◌⊎◌, inl, inr, ℕ, ◌+◌, Bool, true, false, cond, List, [], ◌∷◌, ◌++◌, ap, sym, refl, subst, ◌∙◌, arith}
 use Rattle.std.specs.List.{AllByRecursion}
-use Rattle.std.specs.Prelude.{Ok, Err}
+use Rattle.std.specs.Prelude.{Option, Some, None, Ok, Err}
 use Rattle.wef_batch.specs.WellFormed.{is_well_formed}
 use Rattle.wef_batch.specs.declared.items.Batch.{Batch}
 use Rattle.wef_collector.specs.Boots.{boot_of}
 use Rattle.wef_collector.specs.Calls.{Effect, add_effect, end_by, end_effect, hear_by, take_by, take_effect, unread_by}
+use Rattle.wef_collector.specs.Responses.{lease_changes, leasing_effect, leasing_of, waiting_effect}
 use Rattle.wef_collector.specs.Taken.{batch_changes, heard_changes, put, taken}
+use Rattle.wef_collector.specs.declared.responses.Leasing.{Leasing}
+use Rattle.wef_collector.specs.declared.responses.Response.{Response}
 use Rattle.wef_collector_leases.specs.Changes.{end_lease}
+use Rattle.wef_collector_leases.specs.declared.waiting.Waiting.{Waiting}
 use Rattle.wef_collector_rows.specs.Answers.{added_rows, channels_read, is_known, is_there}
 use Rattle.wef_collector_rows.specs.Keys.{subscription_key}
 use Rattle.wef_collector_rows.specs.Standing.{is_full, standing}
@@ -29,12 +33,12 @@ use Rattle.wef_front_collector.specs.declared.saying.Said.TheVariants.{Ack, Quie
 use Rattle.wef_keeper.specs.Calls.{Makes, MayLeave}
 use Rattle.wef_keeper.specs.Rows.{Rows, applied}
 use Rattle.wef_pairs.specs.Pairs.{about_of}
-use Rattle.wef_promises.proofs.OtherRows.{hearing_aside, noting_aside}
+use Rattle.wef_promises.proofs.OtherRows.{hearing_aside, leasing_aside, noting_aside}
 use Rattle.wef_safety.proofs.Aside.{booted_aside, grows_aside}
 use Rattle.wef_safety.proofs.Growing.{RowsGrow}
 use Rattle.wef_safety.proofs.RowMoves.{adding_grows, ending_grows, subscription_by_taking, taking_grows, taking_reaches}
 use Rattle.wef_runs.specs.Deeds.{AreDone, Deed, Does, IsCut, IsWithin, Keeps, Stay, TakenIsWithin}
-use Rattle.wef_runs.specs.Deeds.{Starts, Adds, Ends, Answers, Leaves}
+use Rattle.wef_runs.specs.Deeds.{Starts, Adds, Ends, Answers, Leaves, Requests, Takes}
 
 -- ---- what stays behind a commit
 
@@ -122,6 +126,15 @@ module _ (found last : Rows) where
       by true = λ made. grown found (applied (end_lease found u s identifier) found) last made (grows_aside _ found (noting_aside found u s identifier))
       by false = λ made. absurd made
 
+  -- so they have by what an answer does, whichever request waits for it
+  answer_stays : (waits : Option Waiting) (answer : Response) (moment : ℕ) → StaysBy found last (waiting_effect waits answer moment found)
+  answer_stays None answer moment = λ made. absurd made
+  answer_stays (Some w) answer moment = by (leasing_of answer w.wants moment)
+    where
+      by : (o : Option Leasing) → StaysBy found last (leasing_effect found w o)
+      by None = λ made. absurd made
+      by (Some leasing) = λ made. grown found (applied (lease_changes found w.sub w.source leasing) found) last made (grows_aside _ found (leasing_aside found w.sub w.source leasing))
+
   -- what may be left of a call has kept all
   left_stays : (effect : Rows → Effect) → StaysBy found last (effect found) → MayLeave effect last found → Stay found last
   left_stays effect stays (inl same) = same_stay found last same
@@ -133,6 +146,8 @@ module _ (found last : Rows) where
   cut_stays (Ends u) left = left_stays (λ rows. end_effect rows u) (end_stays u) left
   cut_stays (Answers host heard moment id said) left = left_stays (effect_in heard.asked moment) (asked_stays heard.asked moment) left
   cut_stays (Leaves heard moment) left = left_stays (effect_in heard.asked moment) (asked_stays heard.asked moment) left
+  cut_stays (Requests host r moment) left = same_stay found last left.0
+  cut_stays (Takes waits answer moment) left = left_stays (waiting_effect waits answer moment) (answer_stays waits answer moment) left
 
 -- ---- deeds that are done
 
@@ -142,6 +157,8 @@ done_as_cut Starts found last does = does
 done_as_cut (Adds s) found last does = does
 done_as_cut (Ends u) found last does = does
 done_as_cut (Leaves heard moment) found last does = does
+done_as_cut (Requests host r moment) found last does = does
+done_as_cut (Takes waits answer moment) found last does = does
 done_as_cut (Answers host heard moment id said) found last (inr (is, may)) = may
 done_as_cut (Answers host heard moment id said) found last (inl (is, same)) = by (effect_in heard.asked moment found) same
   where
@@ -224,6 +241,8 @@ module _ (found last : Rows) where
   does_keep (Adds s) does = tt
   does_keep (Ends u) does = tt
   does_keep (Leaves heard moment) does = tt
+  does_keep (Requests host r moment) does = tt
+  does_keep (Takes waits answer moment) does = tt
   does_keep (Answers host heard moment id said) does = answer_within host heard.asked moment said does
 
 -- ---- later rows
@@ -254,6 +273,8 @@ module _ (rows later : Rows) (stay : Stay rows later) where
   keeps_later (Adds s) keeps = tt
   keeps_later (Ends u) keeps = tt
   keeps_later (Leaves heard moment) keeps = tt
+  keeps_later (Requests host r moment) keeps = tt
+  keeps_later (Takes waits answer moment) keeps = tt
   keeps_later (Answers host heard moment id said) keeps = taken_later heard.asked said keeps
 
   pub all_later : (done : List Deed) → AllByRecursion (Keeps rows) done → AllByRecursion (Keeps later) done

@@ -1,9 +1,14 @@
 -- What a collector does at once to the rows that stand in its store. Each deed commits once at most: so a kill leaves the rows
 -- before the deed that it comes in, or those behind it.
-use Rattle.std.specs.Prelude.{◌≡◌, ℕ, List, [], ◌∷◌, Some}
+use Rattle.std.specs.Prelude.{◌≡◌, ℕ, List, [], ◌∷◌, Option, Some}
 use Rattle.wef_batch.specs.declared.items.Batch.{Batch}
+use Rattle.wef_collector.specs.Asking.{next_request}
 use Rattle.wef_collector.specs.Calls.{add_effect, end_effect}
 use Rattle.wef_collector.specs.Laws.{BookmarksRise, IsReached}
+use Rattle.wef_collector.specs.Responses.{waiting_effect}
+use Rattle.wef_collector.specs.declared.asking.Request.{Request}
+use Rattle.wef_collector.specs.declared.responses.Response.{Response}
+use Rattle.wef_collector_leases.specs.declared.waiting.Waiting.{Waiting}
 use Rattle.wef_collector_serving.specs.ByRows.{Goes}
 use Rattle.wef_commands.specs.Laws.{StartsAtMost}
 use Rattle.wef_eventing.specs.declared.subscriptions.Subscription.{Subscription}
@@ -14,6 +19,7 @@ use Rattle.wef_front_collector.specs.declared.hearing.Heard.{Heard}
 use Rattle.wef_front_collector.specs.declared.saying.Said.{Said}
 use Rattle.wef_front_collector.specs.declared.saying.Said.TheVariants.{Ack, Quiet}
 use Rattle.wef_ids.specs.declared.MessageId.{MessageId}
+use Rattle.wef_ids.specs.declared.ids.Ids.{Ids}
 use Rattle.wef_keeper.specs.Calls.{MayLeave}
 use Rattle.wef_keeper.specs.Rows.{Rows}
 use Rattle.wef_pairs.specs.Pairs.{subscription_at}
@@ -31,6 +37,14 @@ pub data Deed : Type 0 where
   Answers : (host : List ℕ) → Heard → (moment : ℕ) → (id : MessageId) → Said → Deed
   -- a request is heard, and there is no memory to answer it
   Leaves : Heard → (moment : ℕ) → Deed
+  -- a request that is due at a moment is sent to its source, whose events come to a host
+  Requests : (host : List ℕ) → Request → (moment : ℕ) → Deed
+  -- an answer is taken, at a moment, to the request that waits for it, or to none
+  Takes : Option Waiting → Response → (moment : ℕ) → Deed
+
+-- Rows call for a request at a moment, whatever waits for its answer, and whichever ids were drawn.
+abbrev pub IsDue : Rows → List ℕ → Request → ℕ → Type 0
+IsDue rows host r moment = (waiting : List Waiting) × (ids : Ids) × (Some r ≡ next_request rows waiting ids host moment)
 
 -- What a deed that is cut off leaves of rows: it leaves them, or it has made its one commit.
 abbrev pub IsCut : Deed → Rows → Rows → Type 0
@@ -39,6 +53,8 @@ IsCut (Adds s) found last = MayLeave (λ rows. add_effect rows s) last found
 IsCut (Ends u) found last = MayLeave (λ rows. end_effect rows u) last found
 IsCut (Answers host heard moment id said) found last = MayLeave (effect_in heard.asked moment) last found
 IsCut (Leaves heard moment) found last = MayLeave (effect_in heard.asked moment) last found
+IsCut (Requests host r moment) found last = (last ≡ found) × IsDue found host r moment
+IsCut (Takes waits answer moment) found last = MayLeave (waiting_effect waits answer moment) last found
 
 -- What a deed leaves of rows. Of those with no answer nobody is told whether they were done.
 abbrev pub Does : Deed → Rows → Rows → Type 0

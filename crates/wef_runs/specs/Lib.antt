@@ -4,3 +4,4 @@ pub mod Forwarded
 pub mod Laws
 pub mod Recorded
 pub mod Runs
+pub mod Served

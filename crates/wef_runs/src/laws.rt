@@ -3,6 +3,7 @@
 ghost use Rattle.wef_runs.specs.Forwarded.{ForwardsFit};
 ghost use Rattle.wef_runs.specs.Laws.{CollectorRunsAreDeeds, RunsAreAccounted, RunsKeepTaken, TakenStaysKept};
 ghost use Rattle.wef_runs.specs.Recorded.{WritesTellHistory};
+ghost use Rattle.wef_runs.specs.Served.{ServesFit};
 
 /// Each run of a command whose store tells the rows before it has an account: what it did to these, for any
 /// rows that an opening may find behind it.
@@ -33,10 +34,12 @@ pub fn write_tells_the_history()
     wef_commands::laws::numbers_told_are_written();
 }
 
-/// What `forward` sends fits. Where the rows before a run are the window of a source's histories, and the
-/// offers that it took begin within these: each batch that it sent says of the histories, above where its
-/// session stood, just what the session's query selects, and marks as dropped only what is lost. A session
-/// stands where its offer began, and rises by acknowledgements alone, to what the acknowledged message read.
-pub fn what_is_forwarded_fits()
-    ensures { ForwardsFit }
+/// What a source sends fits, by `forward` and by `serve`. Where the rows before a run are the window of a
+/// source's histories, and the offers that it took, and the wishes of collectors, begin within these: each
+/// batch that it sent says of the histories, above where its session stood, just what the session's query
+/// selects, and marks as dropped only what is lost. A session stands where its offer or its wish began, and
+/// rises by acknowledgements alone, to what the acknowledged message read.
+pub fn what_is_sent_fits()
+    ensures forward { ForwardsFit }
+    ensures serve { ServesFit }
 {}
