@@ -32,7 +32,7 @@ use Rattle.wef_running.specs.Collecting.{AreServed, CollectEnds, RoseBy, Serving
 use Rattle.wef_running.specs.Collecting.{none_served, one_served}
 use Rattle.wef_cli.proofs.TellingDue.{full_due, may_find, start_due, sure, told_due}
 use Rattle.wef_cli.specs.Due.{CollectsAsDue, TellsDue, once_started}
-use Rattle.wef_cli.specs.declared.command.Command.TheVariants as the
+use Rattle.wef_command_line.specs.declared.command.Command.TheVariants as the
 
 same_bookmarks : (rows : Rows) → BookmarksRise rows rows
 same_bookmarks rows u s c = omega arith

@@ -12,7 +12,7 @@ use Rattle.wef_commands.specs.Writing.{EndsJudging, IsBad, bad_line, events_of}
 use Rattle.wef_commands.specs.declared.ending.Ending.{Ending}
 use Rattle.wef_commands.specs.declared.ending.Ending.TheVariants as ends
 use Rattle.wef_cli.specs.Complete.{BadLinesAreTold, EndsAs, EndsAsCalledFor, ending_checked, ending_for}
-use Rattle.wef_cli.specs.declared.command.Command.TheVariants.{Check, Replay}
+use Rattle.wef_command_line.specs.declared.command.Command.TheVariants.{Check, Replay}
 use Rattle.wef_cli.specs.Replaying.{IsBadAt, IsTooLong, ReplayEnds, WroteTrail}
 
 told_at : (told : Option (List ℕ)) (bytes : List ℕ) (P : List ℕ → Type 0) → told ≡ Some bytes → IfSome told P → P bytes

@@ -26,7 +26,7 @@ use Rattle.wef_commands.specs.declared.ending.Ending.{Ending}
 use Rattle.wef_commands.specs.declared.ending.Ending.TheVariants as ends
 use Rattle.wef_running.specs.Collecting.{CollectEnds}
 use Rattle.wef_cli.specs.Complete.{FailsWithCause}
-use Rattle.wef_cli.specs.declared.command.Command.TheVariants as the
+use Rattle.wef_command_line.specs.declared.command.Command.TheVariants as the
 use Rattle.wef_cli.proofs.Causes.{later_caused, not_failed}
 use Rattle.wef_cli.proofs.ForwardsCaused.{forwarding_caused}
 use Rattle.wef_cli.proofs.RequestsCaused.{requests_caused}
@@ -156,7 +156,8 @@ fails_with_cause (Some (the.Request address requests)) input out peers before no
     later_caused AreFormed before mid now start.0.faults (requests_caused peers.moment address requests out _ _ asks)
 fails_with_cause (Some (the.Serve address s connections)) input out peers before now (kept, ended) =
     serving_run_caused address connections out peers.moment peers.front_before peers.front_after peers.link_before peers.link_after before now ended
-fails_with_cause (Some the.Show) input out peers before now (kept, ended, unused) =
+fails_with_cause (Some the.Show) input out peers before now (kept, inl (is, unwritten, same), unused) = absurd (not_failed ends.NoMemory refl is)
+fails_with_cause (Some the.Show) input out peers before now (kept, inr ended, unused) =
     call_caused Reports store_ending WroteOut out before now (λ mid fault. report_caused mid now fault) (λ text h. h) ended
 fails_with_cause (Some (the.Events u s c)) input out peers before now (kept, inl (is, unwritten, same), unused) = absurd (not_failed ends.NoMemory refl is)
 fails_with_cause (Some (the.Events u s c)) input out peers before now (kept, inr (inl (fault, start, is, unwritten)), unused) = start_caused before now fault start is
@@ -171,5 +172,6 @@ fails_with_cause (Some the.Add) input out peers before now (inr (s, has, again, 
 fails_with_cause (Some (the.Remove u)) input out peers before now (kept, inl (is, unwritten, same), unused) = absurd (not_failed ends.NoMemory refl is)
 fails_with_cause (Some (the.Remove u)) input out peers before now (kept, inr ended, unused) =
     call_caused (Ends u) (named_ending u) (λ _. WroteOut (ended_text u)) out before now (λ mid fault. end_caused u mid now fault) (λ given h. h) ended
-fails_with_cause (Some the.List) input out peers before now (kept, ended, unused) =
+fails_with_cause (Some the.List) input out peers before now (kept, inl (is, unwritten, same), unused) = absurd (not_failed ends.NoMemory refl is)
+fails_with_cause (Some the.List) input out peers before now (kept, inr ended, unused) =
     call_caused Lists store_ending WroteList out before now (λ mid fault. list_caused mid now fault) (λ list h. list_told list out h) ended

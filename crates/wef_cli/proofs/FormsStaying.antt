@@ -53,8 +53,8 @@ use Rattle.wef_cli.proofs.FailuresCaused.{fails_with_cause}
 use Rattle.wef_cli.specs.Complete.{AreFormedFor}
 use Rattle.wef_cli.specs.Due.{GoesWell}
 use Rattle.wef_cli.specs.Runs.{Peers, RunEnds}
-use Rattle.wef_cli.specs.declared.command.Command.{Command}
-use Rattle.wef_cli.specs.declared.command.Command.TheVariants as the
+use Rattle.wef_command_line.specs.declared.command.Command.{Command}
+use Rattle.wef_command_line.specs.declared.command.Command.TheVariants as the
 
 -- ---- a store whose rows are of their form
 
@@ -335,9 +335,11 @@ module _ (input out : Told) (peers : Peers) (before now : Store) (found : Rows) 
       requests_formed peers.moment address requests ends.StoreFailed out _ _ asks (start.0.ready.0, good_first AreFormed before mid found stand formed start.0.formed)
   run_formed (the.Serve address s connections) formed (kept, ended) =
       serve_formed address connections out peers.moment peers.front_before peers.front_after peers.link_before peers.link_after before now found stand formed ended
-  run_formed the.Show formed (kept, ended, unused) =
+  run_formed the.Show formed (kept, inl (is, unwritten, same), unused) = absurd (not_failed ends.NoMemory refl is)
+  run_formed the.Show formed (kept, inr ended, unused) =
       call_formed before now found stand formed Reports store_ending WroteOut ends.StoreFailed out (λ result mid call opened good. good_look AreFormed mid now opened lawful call.0.opened.0 good) ended
-  run_formed the.List formed (kept, ended, unused) =
+  run_formed the.List formed (kept, inl (is, unwritten, same), unused) = absurd (not_failed ends.NoMemory refl is)
+  run_formed the.List formed (kept, inr ended, unused) =
       call_formed before now found stand formed Lists store_ending WroteList ends.StoreFailed out (λ result mid call opened good. good_look AreFormed mid now opened lawful call.0.opened.0 good) ended
   run_formed (the.Events u s c) formed (kept, inl (is, unwritten, same), unused) = absurd (not_failed ends.NoMemory refl is)
   run_formed (the.Events u s c) formed (kept, inr (inl (fault, start, is, unwritten)), unused) = good_first AreFormed before now found stand formed start.0.formed

@@ -55,9 +55,9 @@ use Rattle.wef_running.specs.ByRows.{ForwardSays}
 use Rattle.wef_running.specs.Forwarding.{AreSent, AsksAndSends, EndsBefore, EndsDone, ForwardEnds, IsAsked, IsSent, Plan, Running, SendsFrom, StartsSource, behind, behind_all, front_ending, line_of, next, subscriptions_line, unless_gone}
 use Rattle.wef_cli.proofs.CollectingDue.{with_says}
 use Rattle.wef_cli.proofs.TellingDue.{begun_due, full_log_due, may_find, sure, told_due}
-use Rattle.wef_cli.specs.Command.{greatest_number}
+use Rattle.wef_command_line.specs.Command.{greatest_number}
 use Rattle.wef_cli.specs.Due.{ForwardsAsDue, TellsDue, once_begun}
-use Rattle.wef_cli.specs.declared.command.Command.TheVariants as the
+use Rattle.wef_command_line.specs.declared.command.Command.TheVariants as the
 
 -- ---- how many ids are drawn
 

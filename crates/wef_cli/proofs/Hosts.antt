@@ -6,10 +6,11 @@ use Rattle.std.specs.List.{list_all, list_any}
 use Rattle.std.specs.Option.{option_and_then, option_map}
 use Rattle.std.specs.Prelude.{Option, None, Some, IfSome, codes}
 use Rattle.wef_base.specs.Names.{channel_name, same, source_name, subscription_name}
-use Rattle.wef_eventing.specs.Addresses.{IsHost, is_printed}
-use Rattle.wef_cli.specs.Command.{HasHost, address_of, begins_with_dash, collect_of, command_in, command_named, command_of, events_of, forward_of, is_address, number_of, remove_of, request_of, serve_of, status_of}
-use Rattle.wef_cli.specs.declared.command.Command.{Command}
-use Rattle.wef_cli.specs.declared.command.Command.TheVariants as the
+use Rattle.wef_eventing.specs.Addresses.{IsHost}
+use Rattle.wef_cli.specs.Hosting.{HasHost}
+use Rattle.wef_command_line.specs.Command.{address_of, begins_with_dash, collect_of, command_in, command_named, command_of, events_of, forward_of, is_address, is_printed, number_of, remove_of, request_of, serve_of, status_of}
+use Rattle.wef_command_line.specs.declared.command.Command.{Command}
+use Rattle.wef_command_line.specs.declared.command.Command.TheVariants as the
 
 abbrev Good : Option Command → Type 0
 Good o = IfSome o HasHost

@@ -6,7 +6,7 @@ use Rattle.wef_commands.specs.Laws.{AddLeaves, ReadersLeave, RemoveLeaves, Stand
 use Rattle.wef_running.specs.ByRows.{CollectsByRows, ForwardsByRows}
 use Rattle.wef_subscribing.specs.ByRows.{RequestsByRows, ServesByRows}
 use Rattle.wef_cli.specs.Leaving.{RunsLeave}
-use Rattle.wef_cli.specs.declared.command.Command.TheVariants as the
+use Rattle.wef_command_line.specs.declared.command.Command.TheVariants as the
 
 -- what isn't touched is found as it stood
 untouched : (store : Store) (found last : Rows) → Stand store found → MayFind store last → last ≡ found
@@ -25,8 +25,14 @@ runs_leave add remove readers write collect forward request serve (Some the.Repl
 runs_leave add remove readers write collect forward request serve (Some the.Check) ending input out peers before now ends lawful found last stand may = as_before before now found last ends.1 stand may
 runs_leave add remove readers write collect forward request serve (Some the.Add) ending input out peers before now ends lawful found last stand may = add ending input out before now ends.0 lawful found last stand may
 runs_leave add remove readers write collect forward request serve (Some (the.Remove u)) ending input out peers before now ends lawful found last stand may = remove u ending out before now ends.1 lawful found last stand may
-runs_leave add remove readers write collect forward request serve (Some the.List) ending input out peers before now ends lawful found last stand may = readers.list ending out before now ends.1 lawful found last stand may
-runs_leave add remove readers write collect forward request serve (Some the.Show) ending input out peers before now ends lawful found last stand may = readers.show ending out before now ends.1 lawful found last stand may
+runs_leave add remove readers write collect forward request serve (Some the.List) ending input out peers before now ends lawful found last stand may = elim ends.1 [
+  | inl undone ↦ inl (as_before before now found last undone.2 stand may)
+  | inr told ↦ readers.list ending out before now told lawful found last stand may
+]
+runs_leave add remove readers write collect forward request serve (Some the.Show) ending input out peers before now ends lawful found last stand may = elim ends.1 [
+  | inl undone ↦ inl (as_before before now found last undone.2 stand may)
+  | inr told ↦ readers.show ending out before now told lawful found last stand may
+]
 runs_leave add remove readers write collect forward request serve (Some (the.Events u s c)) ending input out peers before now ends lawful found last stand may = readers.events u s c ending out before now ends.1 lawful found last stand may
 runs_leave add remove readers write collect forward request serve (Some (the.Status u)) ending input out peers before now ends lawful found last stand may = elim ends.1 [
   | inl undone ↦ inl (as_before before now found last undone.2 stand may)

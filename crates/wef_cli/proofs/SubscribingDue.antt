@@ -43,7 +43,7 @@ use Rattle.wef_cli.proofs.ForwardingDue as forwarding
 use Rattle.wef_cli.proofs.ForwardingDue.{source_room}
 use Rattle.wef_cli.proofs.TellingDue.{begun_due, may_find, start_due, sure, told_due}
 use Rattle.wef_cli.specs.Due.{RequestsAsDue, ServesAsDue, TellsDue, once_begun, once_started}
-use Rattle.wef_cli.specs.declared.command.Command.TheVariants as the
+use Rattle.wef_command_line.specs.declared.command.Command.TheVariants as the
 
 -- ---- a text that isn't told
 

@@ -37,8 +37,8 @@ use Rattle.wef_running.specs.Forwarding.{IsMoment}
 use Rattle.wef_cli.proofs.FormsStaying.{never_failed}
 use Rattle.wef_cli.specs.Due.{AddsAsDue, EventsAsDue, GoesWell, IsDueToAdd, IsWellRead, ListsAsDue, RemovesAsDue, ShowsAsDue, StatusesAsDue, TellsDue, WritesAsDue, adding_ending, once_begun, once_started, removing_ending, showing_ending, writing_ending}
 use Rattle.wef_cli.specs.Runs.{Peers, StatusEndsAt}
-use Rattle.wef_cli.specs.declared.command.Command.{Command}
-use Rattle.wef_cli.specs.declared.command.Command.TheVariants as the
+use Rattle.wef_command_line.specs.declared.command.Command.{Command}
+use Rattle.wef_command_line.specs.declared.command.Command.TheVariants as the
 
 -- ---- what is told
 
@@ -161,17 +161,25 @@ text_due text out found after ends.NoMemory writes sure says = inr refl
 text_due text out found after ends.StoreFailed writes sure says = absurd (sure refl)
 text_due text out found after _ writes sure says = absurd says
 
+-- also where memory was wanting for the words
+unless_undone : {Ends : Type 0} (IsDue Holds : Ending → Type 0) (ending : Ending) (out : Told) (before now : Store) → IsUndone ending out before now ⊎ Ends → (Ends → TellsDue IsDue Holds ending)
+    → TellsDue IsDue Holds ending
+unless_undone IsDue Holds ending out before now (inl (wants, unwritten, same)) due = inr wants
+unless_undone IsDue Holds ending out before now (inr ended) due = due ended
+
 pub lists_as_due : ListsAsDue
 lists_as_due ending told input out peers before now found after well =
     told_due (λ e. e ≡ once_started found ends.Done) (λ e. WritesText (λ found. list_text (listed (started found))) e out found after) ending told well.told_so
-    (text_due (λ found. list_text (listed (started found))) out found after ending well.writes (sure the.List ending told input out peers before now found after well)
-    (lists_by_rows ending out before now well.ends_so.1 found after well.stand well.known))
+    (unless_undone (λ e. e ≡ once_started found ends.Done) (λ e. WritesText (λ found. list_text (listed (started found))) e out found after) ending out before now well.ends_so.1
+    (λ ended. text_due (λ found. list_text (listed (started found))) out found after ending well.writes (sure the.List ending told input out peers before now found after well)
+    (lists_by_rows ending out before now ended found after well.stand well.known)))
 
 pub shows_as_due : ShowsAsDue
 shows_as_due ending told input out peers before now found after well =
     told_due (λ e. e ≡ once_started found ends.Done) (λ e. WritesText (λ found. report (started found)) e out found after) ending told well.told_so
-    (text_due (λ found. report (started found)) out found after ending well.writes (sure the.Show ending told input out peers before now found after well)
-    (shows_by_rows ending out before now well.ends_so.1 found after well.stand well.known))
+    (unless_undone (λ e. e ≡ once_started found ends.Done) (λ e. WritesText (λ found. report (started found)) e out found after) ending out before now well.ends_so.1
+    (λ ended. text_due (λ found. report (started found)) out found after ending well.writes (sure the.Show ending told input out peers before now found after well)
+    (shows_by_rows ending out before now ended found after well.stand well.known)))
 
 module _ (u s c : List ℕ) (out : Told) (found after : Rows) (writes : HasFailed out → ⊥) where
   abbrev IsShowingDue : Ending → Type 0

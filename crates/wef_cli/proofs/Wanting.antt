@@ -1,59 +1,49 @@
--- Which words may want memory to be read, and that nothing is done then.
-use Rattle.std.proofs.Common.{ℕ, List, inl, refl}
-use Rattle.std.specs.Prelude.{Option, None, Some}
+-- Where memory is wanting to read the words, nothing is done.
+use Rattle.std.proofs.Common.{◌∙◌, ℕ, List, inl, refl, sym}
+use Rattle.std.proofs.lemmas.List.{append-nil}
+use Rattle.std.specs.Prelude.{Option, None, Some, IfSome, Result}
+use Rattle.std.specs.declared.result.Result.TheVariants.{Ok, Err}
 use Rattle.std.specs.Io.KnownBytes.{Keeps}
-use Rattle.std.specs.Option.{option_and_then, option_map}
-use Rattle.wef_base.specs.Names.{channel_name, source_name, subscription_name}
 use Rattle.wef_keeper.specs.Keeping.{Store}
+use Rattle.wef_replay.specs.Schedule.{schedule_of}
+use Rattle.wef_replay.specs.declared.lines.Line.{Line}
+use Rattle.wef_replay.specs.declared.schedule.ScheduleFault as fault
+use Rattle.wef_machine.specs.Steps.{trail}
 use Rattle.wef_commands.specs.Endings.{IsUnwritten, Told}
+use Rattle.wef_commands.specs.Streams.{WritesPart}
 use Rattle.wef_commands.specs.declared.ending.Ending.TheVariants as ends
-use Rattle.wef_cli.specs.Command.{MayWantMemory, address_of, collect_of, events_of, forward_of, number_of, remove_of, request_of, serve_of, status_of}
+use Rattle.wef_cli.specs.Replaying.{WroteAtMost}
 use Rattle.wef_cli.specs.Runs.{AreUnused, Peers, RunEnds}
-use Rattle.wef_cli.specs.declared.command.Command.{Command}
-use Rattle.wef_cli.specs.declared.command.Command.TheVariants as the
+use Rattle.wef_command_line.specs.declared.command.Command.{Command}
+use Rattle.wef_command_line.specs.declared.command.Command.TheVariants as the
 
--- what a word says, if anything, and what is made of it
-steps : {A : Type 0} (o : Option A) (more : A → Option Command) → ((a : A) → MayWantMemory (more a)) → MayWantMemory (option_and_then more o)
-steps None more h = tt
-steps (Some a) more h = h a
+-- nothing is a front part of any text
+no_part : (before after : Option (List ℕ)) (text : List ℕ) → Keeps before after → WritesPart before after text
+no_part None after text kept = (0, tt)
+no_part (Some bytes) None text kept = absurd kept
+no_part (Some bytes) (Some more) text kept = (0, kept ∙ sym (append-nil bytes))
 
-made : {A : Type 0} (o : Option A) (command : A → Command) → ((a : A) → MayWantMemory (Some (command a))) → MayWantMemory (option_map command o)
-made None command h = tt
-made (Some a) command h = h a
+at_most : (out : Told) (schedule : Result (List Line) fault.ScheduleFault) → IsUnwritten out → WroteAtMost out schedule
+at_most out (Ok lines) unwritten = no_part out.before out.after (trail lines) unwritten
+at_most out (Err e) unwritten = unwritten
 
-pub remove_wants : (word : List ℕ) → MayWantMemory (remove_of word)
-remove_wants word = made (subscription_name word) the.Remove (λ u. tt)
+none_done : (read : Option (List ℕ)) (out : Told) → IsUnwritten out → IfSome read (λ bytes. WroteAtMost out (schedule_of bytes))
+none_done None out unwritten = tt
+none_done (Some bytes) out unwritten = at_most out (schedule_of bytes) unwritten
 
-pub status_wants : (word : List ℕ) → MayWantMemory (status_of word)
-status_wants word = made (subscription_name word) the.Status (λ u. tt)
-
-pub collect_wants : (at number : List ℕ) → MayWantMemory (collect_of at number)
-collect_wants at number = steps (address_of at) _ (λ address. made (number_of number) (the.Collect address) (λ n. tt))
-
-pub forward_wants : (at source number : List ℕ) → MayWantMemory (forward_of at source number)
-forward_wants at source number =
-    steps (address_of at) _ (λ address. steps (source_name source) _ (λ s. made (number_of number) (the.Forward address s) (λ n. tt)))
-
-pub request_wants : (at number : List ℕ) → MayWantMemory (request_of at number)
-request_wants at number = steps (address_of at) _ (λ address. made (number_of number) (the.Request address) (λ n. tt))
-
-pub serve_wants : (at source number : List ℕ) → MayWantMemory (serve_of at source number)
-serve_wants at source number =
-    steps (address_of at) _ (λ address. steps (source_name source) _ (λ s. made (number_of number) (the.Serve address s) (λ n. tt)))
-
-pub events_wants : (name source channel : List ℕ) → MayWantMemory (events_of name source channel)
-events_wants name source channel =
-    steps (subscription_name name) _ (λ u. steps (source_name source) _ (λ s. made (channel_name channel) (the.Events u s) (λ c. tt)))
-
--- where memory is wanting for such words, nothing is done
-pub nothing_done : (command : Option Command) (input out : Told) (peers : Peers) (store : Store) → MayWantMemory command → Keeps input.before input.after → IsUnwritten out → AreUnused peers
+pub nothing_done : (command : Option Command) (input out : Told) (peers : Peers) (store : Store) → Keeps input.before input.after → IsUnwritten out → AreUnused peers
     → RunEnds command ends.NoMemory input out peers store store
-nothing_done None input out peers store wants kept unwritten unused = (tt, kept, unwritten, refl, unused)
-nothing_done (Some (the.Remove u)) input out peers store wants kept unwritten unused = (kept, inl (refl, unwritten, refl), unused)
-nothing_done (Some (the.Collect address connections)) input out peers store wants kept unwritten unused = (kept, inl ((refl, unwritten, refl), unused.0), unused.1)
-nothing_done (Some (the.Forward address source deliveries)) input out peers store wants kept unwritten unused = (kept, inl ((refl, unwritten, refl), unused.1), unused.0)
-nothing_done (Some (the.Request address requests)) input out peers store wants kept unwritten unused = (kept, inl ((refl, unwritten, refl), unused.1), unused.0)
-nothing_done (Some (the.Serve address source connections)) input out peers store wants kept unwritten unused = (kept, inl ((refl, unwritten, refl), unused.0, unused.1))
-nothing_done (Some (the.Events u s c)) input out peers store wants kept unwritten unused = (kept, inl (refl, unwritten, refl), unused)
-nothing_done (Some (the.Status u)) input out peers store wants kept unwritten unused = (kept, inl (refl, unwritten, refl), unused)
-nothing_done (Some _) input out peers store wants kept unwritten unused = absurd wants
+nothing_done None input out peers store kept unwritten unused = (tt, kept, unwritten, refl, unused)
+nothing_done (Some the.Replay) input out peers store kept unwritten unused = (none_done input.before out unwritten, refl, unused)
+nothing_done (Some the.Add) input out peers store kept unwritten unused = (inl (tt, unwritten, refl), unused)
+nothing_done (Some (the.Remove u)) input out peers store kept unwritten unused = (kept, inl (refl, unwritten, refl), unused)
+nothing_done (Some the.List) input out peers store kept unwritten unused = (kept, inl (refl, unwritten, refl), unused)
+nothing_done (Some the.Check) input out peers store kept unwritten unused = (unwritten, refl, unused)
+nothing_done (Some the.Write) input out peers store kept unwritten unused = (inl (tt, unwritten, refl), unused)
+nothing_done (Some (the.Collect address connections)) input out peers store kept unwritten unused = (kept, inl ((refl, unwritten, refl), unused.0), unused.1)
+nothing_done (Some (the.Forward address source deliveries)) input out peers store kept unwritten unused = (kept, inl ((refl, unwritten, refl), unused.1), unused.0)
+nothing_done (Some (the.Request address requests)) input out peers store kept unwritten unused = (kept, inl ((refl, unwritten, refl), unused.1), unused.0)
+nothing_done (Some (the.Serve address source connections)) input out peers store kept unwritten unused = (kept, inl ((refl, unwritten, refl), unused.0, unused.1))
+nothing_done (Some the.Show) input out peers store kept unwritten unused = (kept, inl (refl, unwritten, refl), unused)
+nothing_done (Some (the.Events u s c)) input out peers store kept unwritten unused = (kept, inl (refl, unwritten, refl), unused)
+nothing_done (Some (the.Status u)) input out peers store kept unwritten unused = (kept, inl (refl, unwritten, refl), unused)

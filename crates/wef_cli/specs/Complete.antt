@@ -16,8 +16,8 @@ use Rattle.wef_commands.specs.Endings.{HasFailed, IsToldAs, IsUnwritten, Told}
 use Rattle.wef_commands.specs.Writing.{bad_line}
 use Rattle.wef_commands.specs.declared.ending.Ending.{Ending}
 use Rattle.wef_commands.specs.declared.ending.Ending.TheVariants as ends
-use Rattle.wef_cli.specs.declared.command.Command.{Command}
-use Rattle.wef_cli.specs.declared.command.Command.TheVariants.{Check, Forward, Replay, Serve, Write}
+use Rattle.wef_command_line.specs.declared.command.Command.{Command}
+use Rattle.wef_command_line.specs.declared.command.Command.TheVariants.{Check, Forward, Replay, Serve, Write}
 use Rattle.wef_cli.specs.Runs.{Peers, RunEnds}
 
 -- the ending that a schedule calls for

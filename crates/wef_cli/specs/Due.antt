@@ -25,11 +25,11 @@ use Rattle.wef_commands.specs.Writing.{bad_line, events_of}
 use Rattle.wef_commands.specs.declared.ending.Ending.{Ending}
 use Rattle.wef_commands.specs.declared.ending.Ending.TheVariants as ends
 use Rattle.wef_commands.specs.declared.writing.TheConstants.{LOG_CAPACITY}
-use Rattle.wef_cli.specs.Command.{greatest_number}
+use Rattle.wef_command_line.specs.Command.{greatest_number}
 use Rattle.wef_cli.specs.Complete.{AreFormedFor}
 use Rattle.wef_cli.specs.Runs.{Peers, RunEnds}
-use Rattle.wef_cli.specs.declared.command.Command.{Command}
-use Rattle.wef_cli.specs.declared.command.Command.TheVariants as the
+use Rattle.wef_command_line.specs.declared.command.Command.{Command}
+use Rattle.wef_command_line.specs.declared.command.Command.TheVariants as the
 
 -- ---- which ending is due
 

@@ -11,8 +11,8 @@ use Rattle.wef_commands.specs.declared.ending.Ending.{Ending}
 use Rattle.wef_running.specs.ByRows.{CollectSays, ForwardSays}
 use Rattle.wef_subscribing.specs.ByRows.{RequestSays, ServeSays}
 use Rattle.wef_cli.specs.Runs.{Peers, RunEnds}
-use Rattle.wef_cli.specs.declared.command.Command.{Command}
-use Rattle.wef_cli.specs.declared.command.Command.TheVariants as the
+use Rattle.wef_command_line.specs.declared.command.Command.{Command}
+use Rattle.wef_command_line.specs.declared.command.Command.TheVariants as the
 
 -- What a command that ended so has done to the rows that stood before it, and to those that an opening finds after it.
 abbrev pub Says : Command → Ending → Told → Told → Peers → Store → Store → Rows → Rows → Type 0

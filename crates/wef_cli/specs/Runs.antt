@@ -19,8 +19,8 @@ use Rattle.wef_running.specs.Forwarding.{ForwardEnds, IsMoment}
 use Rattle.wef_subscribing.specs.Requesting.{RequestEnds}
 use Rattle.wef_subscribing.specs.Serving.{ServeEnds}
 use Rattle.wef_cli.specs.Replaying.{ReplayEnds}
-use Rattle.wef_cli.specs.declared.command.Command.{Command}
-use Rattle.wef_cli.specs.declared.command.Command.TheVariants as the
+use Rattle.wef_command_line.specs.declared.command.Command.{Command}
+use Rattle.wef_command_line.specs.declared.command.Command.TheVariants as the
 
 -- What is told of the connections, before a run and after it, and the moment of the clock: the front takes connections, and the
 -- link makes them.
@@ -57,7 +57,8 @@ RunEnds None ending input out peers before now = IsNotBegun ending input out pee
 RunEnds (Some the.Replay) ending input out peers before now = ReplayEnds ending input out × (now ≡ before) × AreUnused peers
 RunEnds (Some the.Add) ending input out peers before now = AddEnds ending input out before now × AreUnused peers
 RunEnds (Some (the.Remove u)) ending input out peers before now = Keeps input.before input.after × RemoveEnds u ending out before now × AreUnused peers
-RunEnds (Some the.List) ending input out peers before now = Keeps input.before input.after × ListEnds ending out before now × AreUnused peers
+RunEnds (Some the.List) ending input out peers before now =
+    Keeps input.before input.after × (IsUndone ending out before now ⊎ ListEnds ending out before now) × AreUnused peers
 RunEnds (Some the.Check) ending input out peers before now = CheckEnds ending input out × (now ≡ before) × AreUnused peers
 RunEnds (Some (the.Collect address connections)) ending input out peers before now =
     Keeps input.before input.after × CollectEnds address connections ending out peers.moment peers.front_before peers.front_after before now × (peers.link_after ≡ peers.link_before)
@@ -72,7 +73,8 @@ RunEnds (Some (the.Request address requests)) ending input out peers before now 
     × (peers.front_after ≡ peers.front_before)
 RunEnds (Some (the.Serve address source connections)) ending input out peers before now =
     Keeps input.before input.after × ServeEnds address connections ending out peers.moment peers.front_before peers.front_after peers.link_before peers.link_after before now
-RunEnds (Some the.Show) ending input out peers before now = Keeps input.before input.after × ShowEnds ending out before now × AreUnused peers
+RunEnds (Some the.Show) ending input out peers before now =
+    Keeps input.before input.after × (IsUndone ending out before now ⊎ ShowEnds ending out before now) × AreUnused peers
 RunEnds (Some (the.Events u s c)) ending input out peers before now = Keeps input.before input.after × EventsEnds u s c ending out before now × AreUnused peers
 RunEnds (Some (the.Status u)) ending input out peers before now =
     Keeps input.before input.after × (IsUndone ending out before now ⊎ StatusEndsAt peers.moment u ending out before now) × AreUnused peers

@@ -2,11 +2,10 @@
 //! input, an output and a place for messages, and the one call that does all of it.
 #![tactic(auto)]
 
-mod command;
 pub mod laws;
 mod runs;
 mod top;
 
-pub use command::Command;
 pub use top::run;
+pub use wef_command_line::Command;
 pub use wef_commands::Ending;

@@ -1,17 +1,18 @@
 //! The one call that does all of it.
 
 ghost use Rattle.std.specs.Prelude.{◌≡◌, Some, IfOk, IfErr};
-ghost use Rattle.wef_cli.specs.Command.{HasHost, command_of};
+ghost use Rattle.wef_cli.specs.Hosting.{HasHost};
 ghost use Rattle.wef_cli.specs.Replaying.{EndsReading, HasLines, ReplayEnds};
 ghost use Rattle.wef_cli.specs.Runs.{RunEnds, StatusEndsAt};
+ghost use Rattle.wef_command_line.specs.Command.{command_of};
 ghost use Rattle.wef_commands.specs.Endings.{IsToldAs, WroteMessage, status_of, told_of};
 ghost use Rattle.wef_commands.specs.declared.ending.Ending as the_ending;
 ghost use Rattle.wef_replay.specs.Good.{AreGood, no_names};
 
-use crate::command::Command;
 use crate::runs::{RunFault, run_lines};
 use std::alloc::Global;
 use wef_base::{List, Sink, Source, SubId, Text};
+use wef_command_line::Command;
 use wef_commands::events::events;
 use wef_commands::{
     Ending, INPUT_LIMIT, InputFault, add, check, list, read_whole, remove, show, status, write,

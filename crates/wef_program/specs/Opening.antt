@@ -1,8 +1,8 @@
 -- What is done with the store before a command begins.
 use Rattle.std.specs.Prelude.{◌≡◌, ◌⊎◌, Bool, true, false, Option, Some, None}
 use Rattle.wef_base.specs.Counts.{Rose}
-use Rattle.wef_cli.specs.declared.command.Command.{Command}
-use Rattle.wef_cli.specs.declared.command.Command.TheVariants as the
+use Rattle.wef_command_line.specs.declared.command.Command.{Command}
+use Rattle.wef_command_line.specs.declared.command.Command.TheVariants as the
 use Rattle.wef_keeper.specs.Access.{IsReady}
 use Rattle.wef_keeper.specs.Keeping.{KeepsRows, Store}
 

@@ -1,9 +1,9 @@
 //! The program over a database.
 
 ghost use Rattle.std.specs.Prelude.{◌≡◌, ◌⊎◌, true, false};
-ghost use Rattle.wef_cli.specs.Command.{MayWantMemory, command_of};
 ghost use Rattle.wef_cli.specs.Leaving.{SaysOf};
 ghost use Rattle.wef_cli.specs.Runs.{RunEnds};
+ghost use Rattle.wef_command_line.specs.Command.{command_of};
 ghost use Rattle.wef_commands.specs.Endings.{IsToldAs, told_of, status_of};
 ghost use Rattle.wef_commands.specs.declared.ending.Ending as the_ending;
 ghost use Rattle.wef_program.specs.InDatabase.{InDatabase, keeper_store};
@@ -12,7 +12,7 @@ ghost use Rattle.wef_sqlite.specs.Keeping.{IsLeft, IsShown};
 
 use std::alloc::Global;
 use wef_base::{Sink, Source, Text};
-use wef_cli::Command;
+use wef_command_line::Command;
 use wef_connections::{Front, Link};
 use wef_keeper::Keeper;
 use wef_ports::Clock;
@@ -58,12 +58,12 @@ pub fn run_in_database<S: Opens, I: Source, O: Sink, E: Sink, F: Front, L: Link,
 }
 
 /// Opens the store where the words ask for a command that uses it, so that the command begins with rows
-/// that are told. One that can't be opened is left to the command, which tries again and tells it; so is
-/// one where memory is wanting to read the words.
+/// that are told. One that can't be opened is left to the command, which tries again and tells it. Where
+/// memory is wanting to read the words, the store is left as it is.
 #[tactic(auto, using(crate::proofs::Opening::opening_left))]
 pub fn open_for<S: Opens>(mut keeper: SqlKeeper<S>, words: &[Text]) -> SqlKeeper<S>
     ensures unused { asks_store (command_of words.now) ≡ false → result ≡ keeper }
-    ensures opens { asks_store (command_of words.now) ≡ true → (MayWantMemory (command_of words.now) × (result ≡ keeper)) ⊎ IsOpening (keeper_store keeper) (keeper_store result) }
+    ensures opens { asks_store (command_of words.now) ≡ true → (result ≡ keeper) ⊎ IsOpening (keeper_store keeper) (keeper_store result) }
 {
     if uses_store(words) {
         // A failure is told by the command, which opens the store again.
@@ -72,10 +72,9 @@ pub fn open_for<S: Opens>(mut keeper: SqlKeeper<S>, words: &[Text]) -> SqlKeeper
     keeper
 }
 
-/// Whether words ask for a command that uses the store. Not where memory is wanting to read them.
+/// Whether words ask for a command that uses the store. No also where memory is wanting to read them.
 fn uses_store(words: &[Text]) -> bool
-    ensures asks { result ≡ true → asks_store (command_of words.now) ≡ true }
-    ensures wants_memory { result ≡ false → asks_store (command_of words.now) ≡ true → MayWantMemory (command_of words.now) }
+    ensures { result ≡ true → asks_store (command_of words.now) ≡ true }
 {
     match Command::read(words) {
         Ok(Some(Command::Replay | Command::Check)) => false,

@@ -6,8 +6,8 @@ use Rattle.std.specs.List.{AllByRecursion}
 use Rattle.std.specs.Prelude.{IfSome, Option, Some, None, Result, Ok, Err}
 use Rattle.wef_cli.specs.Leaving.{Says}
 use Rattle.wef_cli.specs.Runs.{Peers}
-use Rattle.wef_cli.specs.declared.command.Command.{Command}
-use Rattle.wef_cli.specs.declared.command.Command.TheVariants as the
+use Rattle.wef_command_line.specs.declared.command.Command.{Command}
+use Rattle.wef_command_line.specs.declared.command.Command.TheVariants as the
 use Rattle.wef_collector.specs.Asking.{waiting_of}
 use Rattle.wef_collector.specs.Memories.{answered_in, ends_waiting, memory_answered, waiting_for}
 use Rattle.wef_collector.specs.declared.asking.Request.{Request}

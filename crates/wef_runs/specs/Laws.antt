@@ -2,7 +2,7 @@
 use Rattle.std.specs.Prelude.{List, Some}
 use Rattle.std.specs.List.{AllByRecursion}
 use Rattle.wef_cli.specs.Runs.{Peers, RunEnds}
-use Rattle.wef_cli.specs.declared.command.Command.{Command}
+use Rattle.wef_command_line.specs.declared.command.Command.{Command}
 use Rattle.wef_commands.specs.Endings.{Told}
 use Rattle.wef_commands.specs.Laws.{Stand}
 use Rattle.wef_commands.specs.declared.ending.Ending.{Ending}

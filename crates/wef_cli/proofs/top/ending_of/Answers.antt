@@ -1,7 +1,7 @@
 use Rattle.std.proofs.Common.{refl}
 use Rattle.std.proofs.KnownBytes.{Keeps-refl}
 use Rattle.wef_commands.specs.Endings.{Told}
-use Rattle.wef_cli.specs.Command.{command_of}
+use Rattle.wef_command_line.specs.Command.{command_of}
 use Rattle.wef_cli.proofs.Wanting.{nothing_done}
 use Rattle.wef_cli.proofs.top.ending_of.Goals as goal
 
@@ -15,4 +15,4 @@ returns-in-Err-clause-ends g c =
     let link = g.L.Port.told c.args.link.now in
     nothing_done (command_of c.args.words.now) input out
     (record { front_before = front; front_after = front; link_before = link; link_after = link; moment = g.C.Clock.told c.args.clock.now })
-    (g.K.Keeper.store c.args.keeper) c.in-Err.ensures.wants_memory (Keeps-refl left) (Keeps-refl taken) (refl, refl)
+    (g.K.Keeper.store c.args.keeper) (Keeps-refl left) (Keeps-refl taken) (refl, refl)

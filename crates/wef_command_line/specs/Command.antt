@@ -1,14 +1,13 @@
 -- The command lines: `replay`, `add`, `remove NAME`, `list`, `check`, `write`, `collect ADDRESS N`, `forward ADDRESS SOURCE N`,
 -- `show`, `events NAME SOURCE CHANNEL`, `status NAME`, `request ADDRESS N` and `serve ADDRESS SOURCE N`. No word of one begins with
 -- `-`.
-use Rattle.std.specs.Prelude.{ℕ, ◌==◌, nat_lt, Bool, false, ◌&&◌, List, [], ◌∷◌, length, Option, Some, None, codes, if◌then◌else◌}
+use Rattle.std.specs.Prelude.{ℕ, ◌==◌, nat_le, nat_lt, Bool, false, ◌&&◌, not, List, [], ◌∷◌, length, Option, Some, None, codes, if◌then◌else◌}
 use Rattle.std.specs.List.{list_all, list_any}
 use Rattle.std.specs.Option.{option_and_then, option_map}
 use Rattle.wef_base.specs.Names.{channel_name, same, source_name, subscription_name}
 use Rattle.wef_base.specs.Numbers.{plain_number}
-use Rattle.wef_eventing.specs.Addresses.{IsHost, is_printed}
-use Rattle.wef_cli.specs.declared.command.Command.{Command}
-use Rattle.wef_cli.specs.declared.command.Command.TheVariants as the
+use Rattle.wef_command_line.specs.declared.command.Command.{Command}
+use Rattle.wef_command_line.specs.declared.command.Command.TheVariants as the
 
 -- the command of one word
 abbrev pub command_named : List ℕ → Option Command
@@ -23,6 +22,10 @@ command_named name =
 abbrev pub begins_with_dash : List ℕ → Bool
 begins_with_dash [] = false
 begins_with_dash (b ∷ bs) = b == 45
+
+-- a character that is printed: one of ASCII, and no space
+abbrev pub is_printed : ℕ → Bool
+is_printed b = nat_le 33 b && nat_le b 126
 
 -- one printed character of ASCII or more
 abbrev pub is_address : List ℕ → Bool
@@ -106,20 +109,19 @@ command_in _ = None
 abbrev pub command_of : List (List ℕ) → Option Command
 command_of words = if list_any begins_with_dash words then None else command_in words
 
--- to read such words memory may be wanting
-abbrev pub MayWantMemory : Option Command → Type 0
-MayWantMemory None = Unit {0}
-MayWantMemory (Some (the.Remove u)) = Unit {0}
-MayWantMemory (Some (the.Collect address number)) = Unit {0}
-MayWantMemory (Some (the.Forward address s number)) = Unit {0}
-MayWantMemory (Some (the.Request address number)) = Unit {0}
-MayWantMemory (Some (the.Serve address s number)) = Unit {0}
-MayWantMemory (Some (the.Events u s c)) = Unit {0}
-MayWantMemory (Some (the.Status u)) = Unit {0}
-MayWantMemory (Some _) = ⊥
+-- the names of the commands
+abbrev pub names : List (List ℕ)
+names =
+    codes "replay" ∷ codes "check" ∷ codes "add" ∷ codes "remove" ∷ codes "write" ∷ codes "list" ∷ codes "show" ∷ codes "status"
+    ∷ codes "events" ∷ codes "collect" ∷ codes "request" ∷ codes "forward" ∷ codes "serve" ∷ []
 
--- the address that a source asks at is a host, and so is that of a collector that asks
-abbrev pub HasHost : Command → Type 0
-HasHost (the.Forward address s number) = IsHost address
-HasHost (the.Request address number) = IsHost address
-HasHost _ = Unit {0}
+abbrev pub is_name : List ℕ → Bool
+is_name word = list_any (same word) names
+
+abbrev pub begins_with_name : List (List ℕ) → Bool
+begins_with_name [] = false
+begins_with_name (name ∷ words) = is_name name
+
+-- whether words may be a command line: no word begins with `-`, the first is the name of a command, and at most three are behind it
+abbrev pub may_be_line : List (List ℕ) → Bool
+may_be_line words = (not (list_any begins_with_dash words) && begins_with_name words) && nat_le (length words) 4

@@ -1,0 +1,4 @@
+mod Apps
+mod Firsts
+mod Found
+mod Lines
