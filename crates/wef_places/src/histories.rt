@@ -4,6 +4,7 @@ ghost use Rattle.std.specs.BTreeMap.{IsOrdered};
 ghost use Rattle.std.specs.Cmp.Lexicographic.{slice_cmp};
 ghost use Rattle.std.specs.FinMap as map;
 ghost use Rattle.std.specs.Ordering.{nat_cmp};
+ghost use Rattle.std.specs.Prelude as list;
 ghost use Rattle.std.specs.Prelude.{◌≡◌, [], ◌∷◌, length, IfOk, OnOk};
 ghost use Rattle.wef_source_log.specs.Histories.{extended, history};
 
@@ -46,6 +47,17 @@ impl Histories {
             alloc,
             records: BTreeMap::new(alloc),
         }
+    }
+
+    /// The channels in which it wrote, in the order of their bytes.
+    pub fn channels(&self, alloc: Global) -> Result<List<ChannelName>, AllocError>
+        ensures { IfOk result (λ names. names ≡ list.map (λ entry. entry.0) (map.entries self.now)) }
+    {
+        let mut names = List::new(alloc);
+        for (name, _texts) in &self.records {
+            names.push(name.clone()?)?;
+        }
+        Ok(names)
     }
 
     /// How many records a channel's history has. It takes no memory.

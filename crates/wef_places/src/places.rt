@@ -190,6 +190,16 @@ impl<E: End> Placed<E> {
         self.place = Place::Closed(keeper);
     }
 
+    /// The store as it stands, also where the end runs. What is remembered is lost.
+    pub fn into_store(self) -> MemKeeper
+        ensures { result ≡ places.keeper_in E.keeper self.place }
+    {
+        match self.place {
+            Place::Running(end) => end.into_store(),
+            Place::Closed(keeper) => keeper,
+        }
+    }
+
     /// Shows the end, where it runs.
     pub fn end(&self) -> Option<&E>
         ensures { option_copied result ≡ places.end_in self.now.place }

@@ -214,6 +214,13 @@ impl Slot {
         }
     }
 
+    /// All that it ever wrote.
+    pub fn histories(&self) -> &Histories
+        ensures { result.now ≡ self.now.histories }
+    {
+        &self.histories
+    }
+
     /// Has the next commit fail, or not.
     pub fn arm(&mut self, armed: Option<Armed>)
         ensures { self.new ≡ slot_with self.old (record self.old.place { armed = armed }) }

@@ -272,7 +272,7 @@ one_declared state names s slot alike q =
     ∙ sym (first_or_rest (eq_by_cmp (slice_cmp nat_cmp) q s) slot (slot_of state q))
     ∙ (λ i. sym (texts_ties q s) i || (sym (among_declared state.sources q) ∙ alike.declared q) i)
 
-leaves_names : (line : Line) (state : State) (names : Names) → AreAlike (names_of state) names → AreAlike (names_of (step line state)) (noted line names)
+pub leaves_names : (line : Line) (state : State) (names : Names) → AreAlike (names_of state) names → AreAlike (names_of (step line state)) (noted line names)
 leaves_names (Source s capacity) state names alike = record { declared = one_declared state names s _ alike; foreign = alike.foreign }
 leaves_names (Batch u s b) state names alike =
     same_names (with_foreign state s) (step (Batch u s b) state) (noted (Batch u s b) names)

@@ -8,19 +8,19 @@ mod Counting
 mod DuePairs
 mod DueWishes
 mod Ends
-mod Facts
-mod Going
-mod GoingOn
+pub mod Facts
+pub mod Going
+pub mod GoingOn
 mod HasListed
 mod Keeping
 mod KeptSteps
 mod LaterRows
-mod LaterSteps
+pub mod LaterSteps
 mod LeaseTurns
 mod LeasesPut
 mod LeasesReleased
 mod LessDue
-mod ListedDeclared
+pub mod ListedDeclared
 mod LiveListed
 mod Losing
 mod Named
@@ -34,7 +34,7 @@ mod Requests
 pub mod RequestsFall
 mod Sections
 mod SessionsPut
-mod Settled
+pub mod Settled
 mod Settling
 mod Shown
 mod Turning

@@ -170,14 +170,14 @@ batch_lists state u s b listed =
 
 -- ---- what is done at sources
 
-lost_goes_on : (state : State) (s u : List ℕ) → IsKept state → GoesOn state (lost_step state s u)
+pub lost_goes_on : (state : State) (s u : List ℕ) → IsKept state → GoesOn state (lost_step state s u)
 lost_goes_on state s u kept = at_source_goes state s (lost_at s u) kept (λ now slot end kept_now opened there runs. end_goes now s slot end (lost_in end u) there runs (omega arith))
 
 shut_goes_on : (state : State) (s : List ℕ) → IsKept state → GoesOn state (shut_step state s)
 shut_goes_on state s kept = at_source_goes state s (shut_at s) kept (λ now slot end kept_now opened there runs.
     either_goes now (is_short end) _ _ (goes_itself now) (sent_goes now (with_end now s slot (shut_in end)) _ (end_goes now s slot end (shut_in end) there runs (omega arith))))
 
-write_beside : (s : List ℕ) (event : Event) (now : State) (slot : Slot) (end : machine.End) → (write_at s event now slot end).collector ≡ now.collector
+pub write_beside : (s : List ℕ) (event : Event) (now : State) (slot : Slot) (end : machine.End) → (write_at s event now slot end).collector ≡ now.collector
 write_beside s event now slot end = by (write_effect slot.place.rows event)
   where
     by : (effect : calls.Effect LogFault) → (write_by now s slot event effect).collector ≡ now.collector

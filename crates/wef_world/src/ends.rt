@@ -93,6 +93,14 @@ impl Ends {
         }
     }
 
+    /// The collector and the sources.
+    pub fn into_places(self) -> (CollectorPlace, Sources)
+        ensures collector { collected.collector_of result.0 ≡ self.collector }
+        ensures sources { result.1 ≡ self.sources }
+    {
+        (self.collector, self.sources)
+    }
+
     /// Whether a schedule may have the line next. It takes no memory.
     pub fn admits(&self, line: &Line) -> bool
         ensures { result ≡ steps.admits self.now line.now }

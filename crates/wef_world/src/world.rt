@@ -5,12 +5,15 @@ ghost use Rattle.wef_safety.specs.Kept.{IsHeld};
 ghost use Rattle.wef_machine.specs.States as states;
 ghost use Rattle.wef_machine.specs.Steps as steps;
 ghost use Rattle.wef_places.specs.Counted.{calls_after};
+ghost use Rattle.wef_world.specs.Places.{HasPlaces};
 
 use crate::ends::Ends;
 use std::alloc::Global;
 use std::marker::Model;
 use std::mem;
 use wef_base::Bytes;
+use wef_places::collecting::CollectorPlace;
+use wef_places::sources::Sources;
 use wef_places::{Answers, WorldFault};
 use wef_replay::Line;
 
@@ -45,6 +48,15 @@ impl Held {
         Held {
             ends: Some(Ends::new(alloc)),
             alloc,
+        }
+    }
+
+    fn into_places(self) -> Option<(CollectorPlace, Sources)>
+        ensures { HasPlaces self result }
+    {
+        match self.ends {
+            Some(ends) => Some(ends.into_places()),
+            None => None,
         }
     }
 
@@ -148,6 +160,14 @@ impl<A: Answers> World<A> {
         ensures err { OnErr result (out.new ≡ out.old) }
     {
         self.held.apply(&mut self.answers, line, out)
+    }
+
+    /// Takes the world apart: its collector and its sources, in their places. None after a fault, where
+    /// it is as new.
+    pub fn into_places(self) -> Option<(CollectorPlace, Sources)>
+        ensures { HasPlaces self.held result }
+    {
+        self.held.into_places()
     }
 
     /// What answers its messages.
