@@ -5,7 +5,7 @@ use Rattle.std.proofs.lemmas.Option.{none-some}
 use Rattle.std.specs.List.{flat_map}
 use Rattle.std.specs.Prelude.{◌⊎◌, Option, Some, None, Result, Ok, Err, is_some, slice_get, if◌then◌else◌}
 use Rattle.wef_forwarding.specs.Asking.{AsksOnce, HearsEnvelope}
-use Rattle.wef_forwarding.specs.Forwarding.{Ends, Exchanges, Forwards, answered_in, count_of}
+use Rattle.wef_forwarding.specs.Forwarding.{Forwards}
 use Rattle.wef_forwarding.specs.declared.exchanges.FrontFault.{FrontFault}
 use Rattle.wef_forwarding.specs.declared.exchanges.FrontFault.TheVariants as fronts
 use Rattle.wef_forwarding.specs.declared.forwarding.Exchange.{Exchange}
@@ -13,28 +13,22 @@ use Rattle.wef_forwarding.specs.declared.forwarding.Exchange.TheVariants.{Nothin
 use Rattle.wef_front_source.specs.HeardReplies as heard
 use Rattle.wef_front_source.specs.declared.listening.Hears.{Hears}
 use Rattle.wef_front_source.specs.declared.listening.Hears.TheVariants as hears
-use Rattle.wef_heartbeat.specs.declared.messages.Heartbeat.{Heartbeat}
-use Rattle.wef_ids.specs.declared.MessageId.{MessageId}
-use Rattle.wef_keeper.specs.Calls.{Did, Makes}
+use Rattle.wef_keeper.specs.Calls.{Did}
 use Rattle.wef_keeper.specs.Keeping.{IsLawful, Store}
 use Rattle.wef_keeper.specs.Rows.{Rows}
 use Rattle.wef_keeper.specs.declared.keys.Change.{Change}
 use Rattle.wef_ports.specs.Telling as ports
-use Rattle.wef_source.specs.Answers as source
-use Rattle.wef_source.specs.Answers.{AnswersTo, RefusesStart, Sends, WhereThere}
+use Rattle.wef_source.specs.Answers.{AnswersTo, RefusesStart}
 use Rattle.wef_source.specs.Calls.{start_effect}
 use Rattle.wef_building.specs.Faults.{source_answer, source_store}
 use Rattle.wef_source.specs.Machine.{End, is_spent, start_of}
-use Rattle.wef_source.specs.Sessions.{names_of, session_of}
+use Rattle.wef_source.specs.Sessions.{names_of}
 use Rattle.wef_building.specs.declared.faults.SourceFault.{SourceFault}
 use Rattle.wef_building.specs.declared.faults.SourceFault.TheVariants as faults
-use Rattle.wef_source.specs.declared.messages.Delivery.{Delivery}
 use Rattle.wef_source.specs.declared.messages.Moved as moved
 use Rattle.wef_source.specs.declared.messages.Moved.TheVariants as moves
-use Rattle.wef_source.specs.declared.messages.Poll.TheVariants as polls
 use Rattle.wef_source.specs.declared.messages.Reply as reply
 use Rattle.wef_source.specs.declared.messages.Reply.TheVariants as replies
-use Rattle.wef_building.specs.declared.sessions.Session.{Session}
 use Rattle.wef_source_log.specs.Answers.{is_boot_full, next_boot}
 use Rattle.wef_source_log.specs.Forms.{AreFormed}
 use Rattle.wef_source_log.specs.LogWindow as log
@@ -50,7 +44,7 @@ use Rattle.wef_commands.specs.declared.ending.Ending.TheVariants as ends
 use Rattle.wef_commands.specs.declared.writing.TheConstants.{LOG_CAPACITY}
 use Rattle.wef_running.proofs.IdsDrawn.{draws, forward_drawn, unlike, which}
 use Rattle.wef_running.proofs.LinksCounted.{failed_links_are_counted}
-use Rattle.wef_running.proofs.SentByRows.{forwards_by_rows}
+use Rattle.wef_running.proofs.SentByRows.{forwards_by_rows, start_room}
 use Rattle.wef_running.specs.ByRows.{ForwardSays}
 use Rattle.wef_running.specs.Forwarding.{AreSent, AsksAndSends, EndsBefore, EndsDone, ForwardEnds, IsAsked, IsSent, Plan, Running, SendsFrom, StartsSource, behind, behind_all, front_ending, line_of, next, subscriptions_line, unless_gone}
 use Rattle.wef_cli.proofs.CollectingDue.{with_says}
@@ -226,13 +220,6 @@ start_told mid now after lawful opened silent told = by mid.rows refl
 
 -- ---- the run
 
-pub source_room : (found after : Rows) → Makes (start_effect found LOG_CAPACITY) found after → is_boot_full found ≡ false
-source_room found after makes = by (is_boot_full found) makes
-  where
-    by : (full : Bool) → Makes {F = SourceFault} (source_answer {T = List Change} (if full then Err log_faults.Full else Ok (log.start_changes found LOG_CAPACITY))) found after → full ≡ false
-    by true made = absurd made
-    by false made = refl
-
 source_full : (found : Rows) → start_effect found LOG_CAPACITY ≡ Err faults.Full → is_boot_full found ≡ true
 source_full found is = by (is_boot_full found) is
   where
@@ -259,7 +246,7 @@ module _ (out : Told) (ending : Ending) (writes : HasFailed out → ⊥) (sure :
       let last : Running = record { memory = end; store = now; link = link' } in
       let told = start_told mid now after start.1 start.0.ready.0 (λ silent. sym lawful.both ∙ (asks_silent clock address s deliveries ending out first last asks silent).1) known in
       let did = from_one before mid found told.0 (Did source_store AreFormed (λ found. start_effect found LOG_CAPACITY) next_boot (Ok boot) before mid) stand told.1 start.0.did in
-      by (source_room found told.0 did.answer.0) (asks_so out ending writes sure linked clock address s deliveries first last few refl asks)
+      by (start_room found told.0 did.answer.0) (asks_so out ending writes sure linked clock address s deliveries first last few refl asks)
     where
       by : is_boot_full found ≡ false → (ending ≡ ends.Done) ⊎ (ending ≡ ends.NoMemory) → IsDue
       by starts (inl done) = inl (done ∙ begun_due found ends.Done starts)

@@ -1,5 +1,5 @@
 -- Why a run of `request` or `serve` tells the ending that is due, where nothing fails.
-use Rattle.std.proofs.Common.{◌≡◌, ◌∙◌, ℕ, true, false, List, ◌++◌, ap, refl, sym, subst, inl, inr}
+use Rattle.std.proofs.Common.{◌≡◌, ◌∙◌, ℕ, true, false, List, ◌++◌, ap, refl, subst, inl, inr}
 use Rattle.std.specs.Prelude.{◌⊎◌, Option, Some, None, Result, Ok, Err, is_some}
 use Rattle.wef_base.specs.Counts.{Rose}
 use Rattle.wef_building.specs.declared.faults.SourceFault.{SourceFault}
@@ -24,7 +24,7 @@ use Rattle.wef_ports.specs.Telling as ports
 use Rattle.wef_requesting.specs.Requesting.{Asking}
 use Rattle.wef_requesting.specs.declared.requesting.RequestFault.{RequestFault}
 use Rattle.wef_requesting.specs.declared.requesting.RequestFault.TheVariants as request_faults
-use Rattle.wef_running.proofs.SentByRows.{rows_told, start_keeps, started_did}
+use Rattle.wef_running.proofs.SentByRows.{rows_told, start_keeps, start_room, started_did}
 use Rattle.wef_running.specs.Collecting.{connection_line, listening_line}
 use Rattle.wef_running.specs.Forwarding.{EndsAtBy, EndsDone, IsSent, Running, StartsSource, unless_gone}
 use Rattle.wef_source.specs.Machine.{End, start_of}
@@ -40,7 +40,6 @@ use Rattle.wef_subscribing.specs.Serving.{DeliveryStopsBy, Listening, ListeningE
 use Rattle.wef_cli.proofs.CollectingDue as collecting
 use Rattle.wef_cli.proofs.CollectingDue.{rose_by, with_says}
 use Rattle.wef_cli.proofs.ForwardingDue as forwarding
-use Rattle.wef_cli.proofs.ForwardingDue.{source_room}
 use Rattle.wef_cli.proofs.TellingDue.{begun_due, may_find, start_due, sure, told_due}
 use Rattle.wef_cli.specs.Due.{RequestsAsDue, ServesAsDue, TellsDue, once_begun, once_started}
 use Rattle.wef_command_line.specs.declared.command.Command.TheVariants as the
@@ -201,7 +200,7 @@ module _ (out : Told) (ending : Ending) (writes : HasFailed out → ⊥) (sure :
       let goes = listening_goes rows clock address count ending out _ _ listens keeps in
       let tells : is_some now.images ≡ true = lawful.both ∙ ap (λ (o : Option Rows). is_some o) known in
       let did = started_did before mid boot found start stand rows (rows_told rows mid keeps (goes.told tells)) in
-      source_room found rows did.answer.0
+      start_room found rows did.answer.0
 
   served_due : (address : List ℕ) (count : ℕ) (clock : Option ℕ) (front front' link link' : ports.Told) → (Rose front.faults front'.faults → ⊥) → ServeEnds address count ending out clock front front' link link' before now → IsServeDue
   served_due address count clock front front' link link' calm (inl ((is, unwritten, same), unlistened, unlinked)) = inr is

@@ -81,7 +81,7 @@ boot_made found after makes = by (nat_lt (boot_of found) MAX) makes
     by true made = made
     by false made = absurd made
 
-boot_room : (found after : Rows) → Makes (boot_effect found) found after → can_start found ≡ true
+pub boot_room : (found after : Rows) → Makes (boot_effect found) found after → can_start found ≡ true
 boot_room found after makes = by (nat_lt (boot_of found) MAX) makes
   where
     by : (room : Bool) → Makes {F = CollectorFault} (if room then Ok (put boot_key (boot_of found + 1) [] ∷ []) else Err faults.Full) found after → room ≡ true

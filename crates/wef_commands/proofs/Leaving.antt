@@ -19,11 +19,11 @@ use Rattle.wef_source_log.specs.Faults.{log_store}
 use Rattle.wef_source_log.specs.Forms as log_forms
 use Rattle.wef_source_log.specs.LogWindow as log
 use Rattle.wef_source_log.specs.declared.faults.LogFault.{LogFault}
-use Rattle.wef_commands.proofs.ByRows.{boot_made, image_of, started_so}
-use Rattle.wef_commands.proofs.LogByRows.{event_made, log_made}
+use Rattle.wef_commands.proofs.ByRows.{boot_made, boot_room, could_start, image_of, started_so}
+use Rattle.wef_commands.proofs.LogByRows.{event_made, log_made, log_room}
 use Rattle.wef_commands.specs.Calling.{Starts}
 use Rattle.wef_commands.specs.Endings.{Told}
-use Rattle.wef_commands.specs.Laws.{AddLeaves, AreWritten, CallsAtMost, ReadersLeave, RemoveLeaves, Stand, StartsAtMost, WriteLeaves, started, with_event, with_events}
+use Rattle.wef_commands.specs.Laws.{AddLeaves, AreWritten, CallsAtMost, ReadersLeave, RemoveLeaves, Stand, StartsAtMost, WriteLeaves, can_start, started, with_event, with_events}
 use Rattle.wef_commands.specs.Writing.{EndsBefore, HasEvents, StartsLog, WritesEvent, Wrote, WroteEvents}
 use Rattle.wef_commands.specs.declared.ending.Ending.{Ending}
 use Rattle.wef_commands.specs.declared.writing.TheConstants.{LOG_CAPACITY}
@@ -49,24 +49,27 @@ refused_start before now fault found last start stand may =
   where
     by : MayLeave boot_effect last found → StartsAtMost found last
     by (inl same) = inl same
-    by (inr made) = inr (boot_made found last made)
+    by (inr made) = inr (boot_room found last made, boot_made found last made)
 
--- the rows of a collector that was started are those of the start
-begun_rows : (before mid : Store) (memory : Memory) (found rows : Rows) → Starts (Ok memory) before mid → Stand before found → MayFind mid rows → rows ≡ started found
+-- the rows of a collector that was started are those of the start, and it could be started
+begun_rows : (before mid : Store) (memory : Memory) (found rows : Rows) → Starts (Ok memory) before mid → Stand before found → MayFind mid rows → (can_start found ≡ true) × (rows ≡ started found)
 begun_rows before mid memory found rows start stand may =
-    started_so before mid memory found rows start stand (calm_rows mid.rows mid.images rows start.2.both (start.2.only start.0.ready.1) may)
+    let told = calm_rows mid.rows mid.images rows start.2.both (start.2.only start.0.ready.1) may in
+    (could_start before mid memory found rows start stand told, started_so before mid memory found rows start stand told)
 
 -- ---- a call of the collector
 
 module _ (before mid now : Store) (memory : Memory) (found last : Rows) (start : Starts (Ok memory) before mid) (stand : Stand before found) (lawful : IsLawful now) (may : MayFind now last) where
-  begun_leaves : {T : Type 0} (effect : Rows → Effect CollectorFault) (value : Rows → T) (result : Result T CollectorFault) → IsCall collector_store AreFormed effect value result mid now → MayLeave effect last (started found)
+  begun_leaves : {T : Type 0} (effect : Rows → Effect CollectorFault) (value : Rows → T) (result : Result T CollectorFault) → IsCall collector_store AreFormed effect value result mid now
+      → (can_start found ≡ true) × MayLeave effect last (started found)
   begun_leaves effect value result call =
       let back = which_found (λ rows. GoesOver collector_store effect value result rows last) mid.images (goes_over collector_store AreFormed effect value mid now last result call lawful may) in
       let told = told_before mid now back.0 last lawful start.0.ready.0 call.untold may back.1 in
-      subst (λ (rows : Rows). MayLeave effect last rows) (begun_rows before mid memory found back.0 start stand told) (may_leave collector_store effect value result back.0 last back.2)
+      let begun = begun_rows before mid memory found back.0 start stand told in
+      (begun.0, subst (λ (rows : Rows). MayLeave effect last rows) begun.1 (may_leave collector_store effect value result back.0 last back.2))
 
   -- and one that only reads
-  looked_leaves : HasOpened mid now → last ≡ started found
+  looked_leaves : HasOpened mid now → (can_start found ≡ true) × (last ≡ started found)
   looked_leaves opened = begun_rows before mid memory found last start stand (by mid.images now.images refl refl opened.0 may)
     where
       by : (old all : Option (List Rows)) → mid.images ≡ old → now.images ≡ all → IfSome old (λ olds. IfSome all (AllByRecursion (IsOneOf olds))) → WhereTold all (λ images. IsOneOf images last) → WhereTold old (λ olds. IsOneOf olds last)
@@ -76,7 +79,7 @@ module _ (before mid now : Store) (memory : Memory) (found last : Rows) (start :
           let rowless : is_some now.rows ≡ false = opened.7 start.0.ready.0 (ap (λ (o : Option (List Rows)). is_some o) was) in
           let no : true ≡ false = sym (ap (λ (o : Option (List Rows)). is_some o) is) ∙ lawful.both ∙ rowless in cc
 
-  read_leaves : Stays mid.images now.images → last ≡ started found
+  read_leaves : Stays mid.images now.images → (can_start found ≡ true) × (last ≡ started found)
   read_leaves stays = begun_rows before mid memory found last start stand (by now.images stays may)
     where
       by : (all : Option (List Rows)) → IfSome all (λ told. mid.images ≡ Some told) → WhereTold all (λ images. IsOneOf images last) → MayFind mid last
@@ -87,7 +90,7 @@ module _ (before mid now : Store) (memory : Memory) (found last : Rows) (start :
 
 at_most : (effect : Rows → Effect CollectorFault) (found last : Rows) → StartsAtMost found last → CallsAtMost effect found last
 at_most effect found last (inl same) = inl same
-at_most effect found last (inr is) = inr (inl is)
+at_most effect found last (inr (starts, is)) = inr (starts, inl is)
 
 pub add_leaves : AddLeaves
 add_leaves ending input out before now (inl (why, unwritten, same)) lawful found last stand may = inl (same_store before now found last same stand may)
@@ -208,6 +211,7 @@ write_begun events ending input out before mid now boot found last has start wro
       front = wrote.front ++ stops.0;
       behind = stops.1;
       events = subst (λ (es : List Event). HasEvents es input) (sym (append_assoc wrote.front stops.0 stops.1 ∙ ap (λ (es : List Event). wrote.front ++ es) stops.2 ∙ wrote.whole)) has;
+      starts = log_room found front.0 makes.0;
       rows = stops.3.2 ∙ ap (λ (rows : Rows). with_events rows stops.0) front.2 ∙ sym (both_parts front.0 wrote.front stops.0) ∙ ap (λ (rows : Rows). with_events rows (wrote.front ++ stops.0)) begun;
     }
 
@@ -224,6 +228,6 @@ write_leaves ending input out before now (inr (events, has, inl (fault, start, i
 
     by : MayLeave effect last found → (last ≡ found) ⊎ AreWritten input found last
     by (inl same) = inl same
-    by (inr made) = inr (record { front = []; behind = events; events = has; rows = log_made found last made })
+    by (inr made) = inr (record { front = []; behind = events; events = has; starts = log_room found last made; rows = log_made found last made })
 write_leaves ending input out before now (inr (events, has, inr (boot, mid, start, wrote))) lawful found last stand may =
     inr (write_begun events ending input out before mid now boot found last has start wrote stand may)

@@ -33,6 +33,14 @@ log_made found after makes = by (is_boot_full found) makes
     by true made = absurd made
     by false made = made
 
+-- and a log that is started could be
+pub log_room : (found after : Rows) → Makes (start_effect found LOG_CAPACITY) found after → is_boot_full found ≡ false
+log_room found after makes = by (is_boot_full found) makes
+  where
+    by : (full : Bool) → Makes {F = LogFault} (if full then Err faults.Full else Ok (start_changes found LOG_CAPACITY)) found after → full ≡ false
+    by true made = absurd made
+    by false made = refl
+
 pub event_made : (rows : Rows) (event : Event) (after : Rows) → Makes (write_effect rows event) rows after → after ≡ with_event rows event
 event_made rows event after makes = by (is_full rows event.channel) (is_none (numbered event (next_number rows event))) makes
   where

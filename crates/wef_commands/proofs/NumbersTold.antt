@@ -8,11 +8,11 @@ use Rattle.wef_keeper.proofs.Going.{goes_over, told_before, which_found}
 use Rattle.wef_keeper.specs.Calls.{Effect, GoesOver, Makes}
 use Rattle.wef_keeper.specs.Keeping.{MayFind, Store}
 use Rattle.wef_keeper.specs.Rows.{Rows}
-use Rattle.wef_source_log.specs.Answers.{is_boot_full, is_full, next_boot, next_number, next_text, start_effect, write_effect}
+use Rattle.wef_source_log.specs.Answers.{is_full, next_boot, next_number, next_text, start_effect, write_effect}
 use Rattle.wef_source_log.specs.Faults.{log_store}
 use Rattle.wef_source_log.specs.Forms.{AreFormed}
 use Rattle.wef_source_log.specs.LogWindow as log
-use Rattle.wef_source_log.specs.LogWindow.{capacity_of, start_changes, write_changes}
+use Rattle.wef_source_log.specs.LogWindow.{capacity_of, write_changes}
 use Rattle.wef_source_log.specs.declared.faults.LogFault.{LogFault}
 use Rattle.wef_source_log.specs.declared.faults.LogFault.TheVariants as faults
 use Rattle.wef_commands.specs.Endings.{Told}
@@ -22,7 +22,7 @@ use Rattle.wef_commands.specs.declared.ending.Ending.{Ending}
 use Rattle.wef_commands.specs.declared.ending.Ending.TheVariants as ends
 use Rattle.wef_commands.specs.declared.writing.TheConstants.{LOG_CAPACITY}
 use Rattle.wef_commands.proofs.Leaving.{same_found, same_store, wrote_opened}
-use Rattle.wef_commands.proofs.LogByRows.{event_made, log_made}
+use Rattle.wef_commands.proofs.LogByRows.{event_made, log_made, log_room}
 
 -- ---- what the log refuses
 
@@ -59,14 +59,6 @@ module _ (rows : Rows) (event : Event) where
   goes_on : (k : ℕ) (events : List Event) → is_full rows event.channel ≡ false → is_none (numbered event (next_number rows event)) ≡ false
       → events_ending k rows (event ∷ events) ≡ events_ending (k + 1) (with_event rows event) events
   goes_on k events free short = λ i. cond (free i) ends.Full (cond (short i) (ends.BadLine k) (events_ending (k + 1) (with_event rows event) events))
-
--- a log that is started could be
-log_room : (found after : Rows) → Makes (start_effect found LOG_CAPACITY) found after → is_boot_full found ≡ false
-log_room found after makes = by (is_boot_full found) makes
-  where
-    by : (full : Bool) → Makes {F = LogFault} (if full then Err faults.Full else Ok (start_changes found LOG_CAPACITY)) found after → full ≡ false
-    by true made = absurd made
-    by false made = refl
 
 -- how events end is told by those behind the first, where the first can be written
 pub ending_behind : (k n : ℕ) (rows : Rows) (front behind : List Event) → n ≡ length front + k → events_ending k rows front ≡ ends.Done → events_ending k rows (front ++ behind) ≡ events_ending n (with_events rows front) behind

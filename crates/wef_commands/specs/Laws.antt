@@ -206,13 +206,13 @@ WritesByRows = (ending : Ending) (input out : Told) (before now : Store) → Wri
 abbrev pub OverLast : (Rows → Rows → Type 0) → Store → Store → Type 0
 OverLast Holds before now = IsLawful now → (found last : Rows) → Stand before found → MayFind now last → Holds found last
 
--- the rows are as they were, or the collector was started, and no more
+-- the rows are as they were, or the collector could be started, and was, and no more
 abbrev pub StartsAtMost : Rows → Rows → Type 0
-StartsAtMost found last = (last ≡ found) ⊎ (last ≡ started found)
+StartsAtMost found last = (last ≡ found) ⊎ ((can_start found ≡ true) × (last ≡ started found))
 
 -- or its one call was made, whole
 abbrev pub CallsAtMost : (Rows → Effect CollectorFault) → Rows → Rows → Type 0
-CallsAtMost effect found last = (last ≡ found) ⊎ MayLeave effect last (started found)
+CallsAtMost effect found last = (last ≡ found) ⊎ ((can_start found ≡ true) × MayLeave effect last (started found))
 
 -- at most the subscription of the document was added
 abbrev pub AddLeaves : Type 0
@@ -230,11 +230,12 @@ pub record ReadersLeave : Type 0 where
   pub events : (u s c : List ℕ) (ending : Ending) (out : Told) (before now : Store) → EventsEnds u s c ending out before now → OverLast StartsAtMost before now
   pub status : (u : List ℕ) (moment : ℕ) (ending : Ending) (out : Told) (before now : Store) → StatusEnds u moment ending out before now → OverLast StartsAtMost before now
 
--- some of the input's events were written, from its first on, in its order
+-- the log was started, and some of the input's events were written, from its first on, in its order
 pub record AreWritten (input : Told) (found last : Rows) : Type 0 where
   pub front : List Event
   pub behind : List Event
   pub events : HasEvents (front ++ behind) input
+  pub starts : is_boot_full found ≡ false
   pub rows : last ≡ with_events (log.started found LOG_CAPACITY) front
 
 abbrev pub WriteLeaves : Type 0

@@ -213,7 +213,7 @@ module _ (state : State) (kept : IsKept state) (last : Rows) where
 
   start_keeps : can_start rows ≡ true → StartsAtMost rows last → KeptWith state last
   start_keeps room (inl same) = same_kept same
-  start_keeps room (inr is) =
+  start_keeps room (inr (starts, is)) =
       as_made state (started rows) last is
       (kept_aside state (started rows) kept (booted_aside rows (boot_of rows + 1)) (kept_by_booting rows (boot_of rows + 1) kept.keys) (lower.formed_booted rows room kept.formed))
 

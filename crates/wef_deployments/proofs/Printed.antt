@@ -53,8 +53,8 @@ module _ (state : State) (kept : IsKept state) (room : can_start state.collector
   pair_safe : subscription_at state.collector.rows u ≡ Some about → slot_of state s ≡ Some slot → is_in (channels_read about) c ≡ true
       → IsPairSafe (started state.collector.rows) u s c 0 (settings_of about) (history slot.histories c) slot.capacity
   pair_safe known there listed =
-      let then_kept = deeds_keep.cut state Starts (started state.collector.rows) kept tt room (inr refl) in
-      let stays = cut_stays state.collector.rows (started state.collector.rows) Starts (inr refl) in
+      let then_kept = deeds_keep.cut state Starts (started state.collector.rows) kept tt room (inr (room, refl)) in
+      let stays = cut_stays state.collector.rows (started state.collector.rows) Starts (inr (room, refl)) in
       (kept_is_safe (after_cut state Starts (started state.collector.rows)) then_kept).pairs u s c about (written_by slot) (stays.known u about known) (ap (option_map written_by) there) listed
 
 pub events_print_history : EventsByRows → EventsPrintHistory

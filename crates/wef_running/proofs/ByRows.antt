@@ -13,7 +13,7 @@ use Rattle.wef_collector_serving.proofs.OverRows.{both_counted, both_rise, conne
 use Rattle.wef_collector_serving.specs.Answers.{Answers, KnownCollector, Leaves}
 use Rattle.wef_collector_serving.specs.ByRows.{AnswersBy, AreGood, Kept, LeavesBy, kept_of}
 use Rattle.wef_collector_serving.specs.Laws.{AreCounted}
-use Rattle.wef_commands.proofs.ByRows.{from_one, image_of, started_so}
+use Rattle.wef_commands.proofs.ByRows.{could_start, from_one, image_of, started_so}
 use Rattle.wef_commands.specs.Calling.{Starts}
 use Rattle.wef_commands.specs.Endings.{IsUnwritten, Told}
 use Rattle.wef_commands.specs.Laws.{Stand, started}
@@ -268,6 +268,7 @@ was_started address count ending out clock f g before mid now memory memory_now 
     record {
       memory = memory_now;
       errors = back.errors;
+      starts = could_start before mid memory found back.first start stand told;
       listens = subst (λ (k : Kept). ListeningEndsBy (AreServedBy last clock) address count ending out f k g (record { rows = last; memory = memory_now; errors = back.errors })) kept back.ends;
       counted = λ formed below.
           let later : before.faults ≤ mid.faults = start.0.faults in

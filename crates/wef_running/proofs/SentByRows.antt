@@ -162,12 +162,20 @@ module _ (rows : Rows) (clock : Option ℕ) where
 
 -- ---- the run
 
-start_made : (found after : Rows) → Makes (start_effect found LOG_CAPACITY) found after → after ≡ log.started found LOG_CAPACITY
+pub start_made : (found after : Rows) → Makes (start_effect found LOG_CAPACITY) found after → after ≡ log.started found LOG_CAPACITY
 start_made found after makes = by (is_boot_full found) makes
   where
     by : (full : Bool) → Makes {F = SourceFault} (source_answer {T = List Change} (if full then Err log_faults.Full else Ok (log.start_changes found LOG_CAPACITY))) found after → after ≡ log.started found LOG_CAPACITY
     by true made = absurd made
     by false made = made
+
+-- and a source that is started could be
+pub start_room : (found after : Rows) → Makes (start_effect found LOG_CAPACITY) found after → is_boot_full found ≡ false
+start_room found after makes = by (is_boot_full found) makes
+  where
+    by : (full : Bool) → Makes {F = SourceFault} (source_answer {T = List Change} (if full then Err log_faults.Full else Ok (log.start_changes found LOG_CAPACITY))) found after → full ≡ false
+    by true made = absurd made
+    by false made = refl
 
 -- without doubt an opening finds the rows that stand
 calm_only : (rows : Rows) (stand : Option Rows) (images : Option (List Rows)) → is_some images ≡ is_some stand → IfSome images (λ all. WhereTold stand (λ rows'. all ≡ rows' ∷ []))
@@ -210,6 +218,7 @@ was_begun address s deliveries ending out clock link link' before mid now boot e
     let is : last ≡ rows = last_is rows last now.images may now_keeps.only in
     let did = started_did before mid boot found start stand rows (rows_told rows mid keeps mid_told) in
     record {
+      starts = start_room found rows did.answer.0;
       rows = is;
       started = mid;
       end = end;

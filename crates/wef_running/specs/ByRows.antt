@@ -1,6 +1,6 @@
 -- `collect` and `forward` over the rows that stood before them, where these and what an opening may find behind them are told.
 -- The first part is of `collect`.
-use Rattle.std.specs.Prelude.{◌≡◌, ◌⊎◌, ℕ, ◌+◌, ◌<◌, ◌≤◌, List, [], ◌∷◌, Option, Some, Err}
+use Rattle.std.specs.Prelude.{◌≡◌, ◌⊎◌, ℕ, ◌+◌, ◌<◌, ◌≤◌, true, false, List, [], ◌∷◌, Option, Some, Err}
 use Rattle.wef_base.specs.Counts.{Rose}
 use Rattle.wef_collector.specs.Boots.{memory_begun}
 use Rattle.wef_collector.specs.Calls.{OfStart, boot_effect}
@@ -10,7 +10,7 @@ use Rattle.wef_collector_rows.specs.Forms.{AreFormed}
 use Rattle.wef_collector_rows.specs.declared.faults.CollectorFault.{CollectorFault}
 use Rattle.wef_collector_serving.specs.ByRows.{AnswersBy, Kept, LeavesBy}
 use Rattle.wef_commands.specs.Endings.{IsUnwritten, Told}
-use Rattle.wef_commands.specs.Laws.{Stand, started}
+use Rattle.wef_commands.specs.Laws.{Stand, can_start, started}
 use Rattle.wef_commands.specs.Refusals.{source_ending, store_ending}
 use Rattle.wef_commands.specs.declared.ending.Ending.{Ending}
 use Rattle.wef_commands.specs.declared.ending.Ending.TheVariants as ends
@@ -31,7 +31,7 @@ use Rattle.wef_source.specs.Calls.{start_effect}
 use Rattle.wef_building.specs.Faults.{source_store}
 use Rattle.wef_source.specs.Machine.{End, start_of}
 use Rattle.wef_building.specs.declared.faults.SourceFault.{SourceFault}
-use Rattle.wef_source_log.specs.Answers.{next_boot}
+use Rattle.wef_source_log.specs.Answers.{is_boot_full, next_boot}
 use Rattle.wef_source_log.specs.LogWindow as log
 
 -- The next connection of a front was served over rows, in a run that leaves the final rows, and ended so.
@@ -59,11 +59,12 @@ IsNotStarted ending out f g found last =
 abbrev pub begun : Rows → Kept
 begun found = record { rows = started found; memory = memory_begun found; errors = 0 }
 
--- The collector was started, and connections were served over the rows then; all that ends it is said as without rows. Over rows of
--- their form its answers say that the store failed no more often than its faults were counted, as far as these can be.
+-- The collector could be started, and was, and connections were served over the rows then; all that ends it is said as without rows.
+-- Over rows of their form its answers say that the store failed no more often than its faults were counted, as far as these can be.
 pub record IsStarted (address : List ℕ) (count : ℕ) (ending : Ending) (out : Told) (clock : Option ℕ) (f g : ports.Told) (before now : Store) (found last : Rows) : Type 0 where
   pub memory : Memory
   pub errors : ℕ
+  pub starts : can_start found ≡ true
   pub listens : ListeningEndsBy (AreServedBy last clock) address count ending out f (begun found) g (record { rows = last; memory = memory; errors = errors })
   pub counted : AreFormed found → now.faults < 18446744073709551615 → before.faults + errors ≤ now.faults
 
@@ -91,9 +92,10 @@ IsNotBegun ending out link link' found last =
     (fault : SourceFault) × RefusesStart fault × (ending ≡ source_ending fault) × IsUnwritten out × (link' ≡ link)
     × GoesOver source_store (λ rows. start_effect rows LOG_CAPACITY) next_boot (Err fault) found last
 
--- The source was started over rows, under the boot number that stands in them then, and nothing else changes them: each batch that
--- was sent is the one that they and the session give, and each heartbeat was sent where they give no item.
+-- The source could be started over rows, and was, under the boot number that stands in them then, and nothing else changes them: each
+-- batch that was sent is the one that they and the session give, and each heartbeat was sent where they give no item.
 pub record IsBegun (address s : List ℕ) (deliveries : ℕ) (ending : Ending) (out : Told) (clock : Option ℕ) (link link' : ports.Told) (now : Store) (found last : Rows) : Type 0 where
+  pub starts : is_boot_full found ≡ false
   pub rows : last ≡ log.started found LOG_CAPACITY
   pub started : Store
   pub end : End

@@ -1,26 +1,24 @@
 -- The deeds of a run, by its account, and what any runs keep.
-use Rattle.std.proofs.Common.{◌≡◌, ◌⊎◌, inl, inr, ℕ, ◌+◌, Bool, true, false, cond, List, [], ◌∷◌, ◌++◌, ap, refl, subst, nat_lt}
+use Rattle.std.proofs.Common.{◌≡◌, ◌⊎◌, inl, inr, ℕ, List, [], ◌∷◌, ◌++◌, ap, refl, subst}
 use Rattle.std.specs.Prelude.{Option, Some, None, Result, Ok, Err}
-use Rattle.wef_base.specs.declared.numbers.TheConstants.{MAX}
 use Rattle.wef_cli.specs.Leaving.{Says}
 use Rattle.wef_cli.specs.Runs.{Peers}
 use Rattle.wef_command_line.specs.declared.command.Command.{Command}
 use Rattle.wef_command_line.specs.declared.command.Command.TheVariants as the
-use Rattle.wef_collector.specs.Boots.{boot_of, memory_begun}
+use Rattle.wef_collector.specs.Boots.{memory_begun}
 use Rattle.wef_collector.specs.Asking.{next_request}
 use Rattle.wef_collector.specs.Calls.{boot_effect, no_effect}
 use Rattle.wef_collector.specs.Memories.{waiting_for}
 use Rattle.wef_collector.specs.Responses.{answered_of, waiting_effect}
-use Rattle.wef_collector.specs.Taken.{put}
 use Rattle.wef_collector.specs.declared.asking.Request.{Request}
 use Rattle.wef_collector.specs.declared.memories.Memory.{Memory}
 use Rattle.wef_collector.specs.declared.responses.Answered.{Answered}
 use Rattle.wef_collector.specs.declared.responses.Response.{Response}
 use Rattle.wef_collector_rows.specs.Faults.{collector_store}
-use Rattle.wef_collector_rows.specs.Keys.{boot_key}
 use Rattle.wef_collector_rows.specs.declared.faults.CollectorFault.{CollectorFault}
 use Rattle.wef_collector_rows.specs.declared.faults.CollectorFault.TheVariants as faults
 use Rattle.wef_collector_serving.specs.ByRows.{AnswersBy, Kept, LeavesBy}
+use Rattle.wef_commands.proofs.ByRows.{boot_made, boot_room}
 use Rattle.wef_commands.specs.Endings.{Told}
 use Rattle.wef_commands.specs.Laws.{StartsAtMost, started}
 use Rattle.wef_commands.specs.declared.ending.Ending.{Ending}
@@ -30,7 +28,7 @@ use Rattle.wef_front_collector.specs.HeardResponses as responses
 use Rattle.wef_front_collector.specs.HeardResponses.{response_told}
 use Rattle.wef_front_collector.specs.declared.listening.Hears as listening
 use Rattle.wef_ids.specs.declared.MessageId.{MessageId}
-use Rattle.wef_keeper.specs.Calls.{Makes, MayLeave}
+use Rattle.wef_keeper.specs.Calls.{MayLeave}
 use Rattle.wef_keeper.proofs.Going.{may_leave}
 use Rattle.wef_keeper.specs.Keeping.{Store}
 use Rattle.wef_keeper.specs.Rows.{Rows}
@@ -104,11 +102,7 @@ module _ (final : Rows) (clock : Option ℕ) where
 -- a start that isn't done leaves the rows, or has raised the boot number
 start_cut : (found last : Rows) → MayLeave boot_effect last found → StartsAtMost found last
 start_cut found last (inl same) = inl same
-start_cut found last (inr made) = by (nat_lt (boot_of found) MAX) made
-  where
-    by : (t : Bool) → Makes (cond t (Ok (put boot_key (boot_of found + 1) [] ∷ [])) (Err faults.Full)) found last → StartsAtMost found last
-    by true made = inr made
-    by false made = absurd made
+start_cut found last (inr made) = inr (boot_room found last made, boot_made found last made)
 
 unstarted : (ending : Ending) (out : Told) (f g : ports.Told) (found last : Rows) → IsNotStarted ending out f g found last → StartsAtMost found last
 unstarted ending out f g found last (unwritten, front, inl (is, same)) = inl same
@@ -197,7 +191,7 @@ module _ (ending : Ending) (input out : Told) (peers : Peers) (before now : Stor
       → AreDone (deeds_collected ending input out peers before now found last address count says) found last
   collected_done address count (inl refused) = alone Starts found last (unstarted ending out peers.front_before peers.front_after found last refused)
   collected_done address count (inr is) =
-      (started found, inr refl, listening_done last peers.moment address count ending out peers.front_before peers.front_after (begun found) (record { rows = last; memory = is.memory; errors = is.errors }) is.listens)
+      (started found, inr (is.starts, refl), listening_done last peers.moment address count ending out peers.front_before peers.front_after (begun found) (record { rows = last; memory = is.memory; errors = is.errors }) is.listens)
 
   asking_done : (host : List ℕ) (count : ℕ) (is : IsAsking host count ending out peers.moment peers.link_before peers.link_after found last)
       → AreDone (deeds_asking ending input out peers before now found last host count is) (started found) last
@@ -210,14 +204,14 @@ module _ (ending : Ending) (input out : Told) (peers : Peers) (before now : Stor
       → AreDone (deeds_asked ending input out peers before now found last host count says) found last
   asked_done host count (inl same) = same
   asked_done host count (inr (inl (fault, is, of_start, unwritten, unused, goes))) = alone Starts found last (start_cut found last (may_leave collector_store boot_effect memory_begun (Err fault) found last goes))
-  asked_done host count (inr (inr is)) = (started found, inr refl, asking_done host count is)
+  asked_done host count (inr (inr is)) = (started found, inr (is.starts, refl), asking_done host count is)
 
   account_done : (command : Command) (says : Says command ending input out peers before now found last) → OfCollector command → AreDone (deeds_by ending input out peers before now found last command says) found last
   account_done the.Add (inl same) of = same
   account_done the.Add (inr (s, document, inl same)) of = same
-  account_done the.Add (inr (s, document, inr left)) of = (started found, inr refl, (last, left, refl))
+  account_done the.Add (inr (s, document, inr (starts, left))) of = (started found, inr (starts, refl), (last, left, refl))
   account_done (the.Remove u) (inl same) of = same
-  account_done (the.Remove u) (inr left) of = (started found, inr refl, (last, left, refl))
+  account_done (the.Remove u) (inr (starts, left)) of = (started found, inr (starts, refl), (last, left, refl))
   account_done the.List says of = alone Starts found last says
   account_done the.Show says of = alone Starts found last says
   account_done (the.Events u s c) says of = alone Starts found last says

@@ -61,7 +61,7 @@ StaysBy found last e = Makes e found last → Stay found last
 
 start_stays : (found last : Rows) → StartsAtMost found last → Stay found last
 start_stays found last (inl same) = same_stay found last same
-start_stays found last (inr is) = grown found (started found) last is (grows_aside (started found) found (booted_aside found (boot_of found + 1)))
+start_stays found last (inr (starts, is)) = grown found (started found) last is (grows_aside (started found) found (booted_aside found (boot_of found + 1)))
 
 module _ (found last : Rows) where
   add_stays : (s : Subscription) → StaysBy found last (add_effect found s)

@@ -1,5 +1,5 @@
 -- `request` over rows: from any of those that an opening may find behind it, back to those that stood before.
-use Rattle.std.proofs.Common.{◌≡◌, ◌⊎◌, inl, inr, ℕ, ◌-◌, true, List, [], ◌∷◌, length, ap, refl, subst, ◌∙◌}
+use Rattle.std.proofs.Common.{◌≡◌, inl, inr, ℕ, ◌-◌, true, List, [], ◌∷◌, length, ap, subst, ◌∙◌}
 use Rattle.std.specs.List.{flat_map}
 use Rattle.std.specs.Prelude.{Option, Some, None, Result, Ok, Err}
 use Rattle.wef_collector.specs.Boots.{memory_begun}
@@ -8,7 +8,7 @@ use Rattle.wef_collector.specs.declared.memories.Memory.{Memory}
 use Rattle.wef_collector_rows.specs.Faults.{collector_store}
 use Rattle.wef_collector_rows.specs.Forms.{AreFormed}
 use Rattle.wef_collector_rows.specs.declared.faults.CollectorFault.{CollectorFault}
-use Rattle.wef_commands.proofs.ByRows.{from_one, started_so}
+use Rattle.wef_commands.proofs.ByRows.{could_start, from_one, started_so}
 use Rattle.wef_commands.specs.Calling.{Starts}
 use Rattle.wef_commands.specs.Endings.{IsUnwritten, Told}
 use Rattle.wef_commands.specs.Laws.{Stand, started}
@@ -16,7 +16,7 @@ use Rattle.wef_commands.specs.Refusals.{store_ending}
 use Rattle.wef_commands.specs.declared.ending.Ending.{Ending}
 use Rattle.wef_keeper.proofs.Going.{calm_rows, goes_over, which_found}
 use Rattle.wef_keeper.specs.Calls.{Did, GoesOver}
-use Rattle.wef_keeper.specs.Keeping.{IsLawful, MayFind, Store}
+use Rattle.wef_keeper.specs.Keeping.{MayFind, Store}
 use Rattle.wef_keeper.specs.Rows.{Rows}
 use Rattle.wef_ports.specs.Telling as ports
 use Rattle.wef_requesting.proofs.OverRows.{opened_once, requests_go_by_rows}
@@ -120,6 +120,7 @@ was_asking host count ending out clock link link' before mid now memory memory_n
     let kept : first ≡ record { rows = started found; memory = memory_begun found; link = link } = λ i. record { rows = rows i; memory = did.answer.1 i; link = link } in
     record {
       memory = memory_now;
+      starts = could_start before mid memory found back.first start stand told;
       asks = subst (λ (k : Kept). RequestsAllBy (IsRequestedOver clock host) count ending out k (record { rows = last; memory = memory_now; link = link' })) kept back.holds;
     }
 

@@ -1,5 +1,5 @@
 -- `serve` over rows: its source changes them once, as it starts, and each message is the one that they give then.
-use Rattle.std.proofs.Common.{◌≡◌, ◌⊎◌, inl, inr, ℕ, suc, true, List, [], ◌∷◌, ◌++◌, length, refl, ap, sym, subst}
+use Rattle.std.proofs.Common.{◌≡◌, inl, inr, ℕ, suc, true, List, [], ◌∷◌, ◌++◌, length, refl, ap, sym, subst}
 use Rattle.std.specs.List.{flat_map}
 use Rattle.std.specs.Prelude.{Option, Some, None, Result, Ok, Err, slice_get}
 use Rattle.wef_commands.specs.Endings.{Told}
@@ -12,7 +12,7 @@ use Rattle.wef_keeper.specs.Keeping.{MayFind, Store}
 use Rattle.wef_keeper.specs.Rows.{Rows}
 use Rattle.wef_ports.specs.Telling as ports
 use Rattle.wef_running.proofs.ByRows.{only_found, still_found}
-use Rattle.wef_running.proofs.SentByRows.{Keeps, last_is, rows_told, sent_keeps, sent_over, sent_told, start_keeps, started_did, tells, tells_found, was_not_begun}
+use Rattle.wef_running.proofs.SentByRows.{Keeps, last_is, rows_told, sent_keeps, sent_over, sent_told, start_keeps, start_room, started_did, tells, tells_found, was_not_begun}
 use Rattle.wef_running.specs.ByRows.{IsSentOver}
 use Rattle.wef_running.specs.Collecting.{connection_line, listening_line}
 use Rattle.wef_running.specs.Forwarding.{EndsAtBy, IsSent, Running, StartsSource, line_of}
@@ -22,7 +22,7 @@ use Rattle.wef_source.specs.Sessions.{names_of}
 use Rattle.wef_source_log.specs.Answers.{next_boot}
 use Rattle.wef_source_log.specs.LogWindow as log
 use Rattle.wef_subscribing.specs.ByRows.{IsServing, ServesByRows}
-use Rattle.wef_subscribing.specs.Serving.{AreDeliveredBy, AreRounds, DeliversAllBy, DeliversEachBy, DeliveryStopsBy, IsRound, IsServed, Listening, ListeningEnds, ListeningEndsBy, Round, RoundFailsBy, RoundStopsBy, ServesAllBy, ServingStopsBy, TellingEndsBy, left_behind, left_by, listening_at, rounds_text}
+use Rattle.wef_subscribing.specs.Serving.{AreDeliveredBy, AreRounds, DeliversAllBy, DeliveryStopsBy, IsRound, IsServed, Listening, ListeningEnds, ListeningEndsBy, Round, RoundFailsBy, RoundStopsBy, ServingStopsBy, TellingEndsBy, left_behind, left_by, listening_at, rounds_text}
 use Rattle.wef_subscribing.specs.Serving.{no_round, one_round}
 
 module _ (rows : Rows) (clock : Option ℕ) where
@@ -207,6 +207,7 @@ was_serving address count ending out clock front front' link link' before mid no
     let is : last ≡ rows = last_is rows last now.images may goes.keeps.only in
     let did = started_did before mid boot found start stand rows (rows_told rows mid keeps (goes.told told)) in
     record {
+      starts = start_room found rows did.answer.0;
       rows = is;
       started = mid;
       end = end;

@@ -1,12 +1,12 @@
 -- `request` and `serve` over the rows that stood before them, where these and what an opening may find behind them are told.
-use Rattle.std.specs.Prelude.{◌≡◌, ◌⊎◌, ℕ, List, Option, Result, Err}
+use Rattle.std.specs.Prelude.{◌≡◌, ◌⊎◌, ℕ, true, false, List, Option, Result, Err}
 use Rattle.wef_collector.specs.Boots.{memory_begun}
 use Rattle.wef_collector.specs.Calls.{OfStart, boot_effect}
 use Rattle.wef_collector.specs.declared.memories.Memory.{Memory}
 use Rattle.wef_collector_rows.specs.Faults.{collector_store}
 use Rattle.wef_collector_rows.specs.declared.faults.CollectorFault.{CollectorFault}
 use Rattle.wef_commands.specs.Endings.{IsUnwritten, Told}
-use Rattle.wef_commands.specs.Laws.{Stand, started}
+use Rattle.wef_commands.specs.Laws.{Stand, can_start, started}
 use Rattle.wef_commands.specs.Refusals.{store_ending}
 use Rattle.wef_commands.specs.declared.ending.Ending.{Ending}
 use Rattle.wef_commands.specs.declared.ending.Ending.TheVariants as ends
@@ -21,7 +21,7 @@ use Rattle.wef_requesting.specs.declared.requesting.Sent.{Sent}
 use Rattle.wef_running.specs.ByRows.{IsNotBegun, IsSentOver}
 use Rattle.wef_running.specs.Forwarding.{IsMoment}
 use Rattle.wef_source.specs.Machine.{End, start_of}
-use Rattle.wef_source_log.specs.Answers.{next_boot}
+use Rattle.wef_source_log.specs.Answers.{is_boot_full, next_boot}
 use Rattle.wef_source_log.specs.LogWindow as log
 use Rattle.wef_subscribing.specs.Requesting.{RequestEnds, RequestsAllBy}
 use Rattle.wef_subscribing.specs.Serving.{ListeningEndsBy, ServeEnds}
@@ -39,10 +39,11 @@ abbrev pub IsNotStarted : Ending → Told → ports.Told → ports.Told → Rows
 IsNotStarted ending out link link' found last =
     (fault : CollectorFault) × (ending ≡ store_ending fault) × OfStart fault × IsUnwritten out × (link' ≡ link) × GoesOver collector_store boot_effect memory_begun (Err fault) found last
 
--- The collector was started, and requests were sent over the rows then, one after the other, each over those that the answer to the one
--- before it left; all that ends it is said as without rows.
+-- The collector could be started, and was, and requests were sent over the rows then, one after the other, each over those that the
+-- answer to the one before it left; all that ends it is said as without rows.
 pub record IsAsking (host : List ℕ) (count : ℕ) (ending : Ending) (out : Told) (clock : Option ℕ) (link link' : ports.Told) (found last : Rows) : Type 0 where
   pub memory : Memory
+  pub starts : can_start found ≡ true
   pub asks : RequestsAllBy (IsRequestedOver clock host) count ending out (record { rows = started found; memory = memory_begun found; link = link }) (record { rows = last; memory = memory; link = link' })
 
 -- What `request` does to rows: an opening finds the last ones behind it.
@@ -61,10 +62,11 @@ RequestsByRows =
 abbrev pub IsNothingDone : Ending → Told → ports.Told → ports.Told → ports.Told → ports.Told → Rows → Rows → Type 0
 IsNothingDone ending out front front' link link' found last = (ending ≡ ends.NoMemory) × IsUnwritten out × (front' ≡ front) × (link' ≡ link) × (last ≡ found)
 
--- The source was started over rows, under the boot number that stands in them then, and nothing else changes them: no answer of a
--- connection rests on them, each batch that was sent is the one that they and the session give, and each heartbeat was sent where they
--- give no item.
+-- The source could be started over rows, and was, under the boot number that stands in them then, and nothing else changes them: no
+-- answer of a connection rests on them, each batch that was sent is the one that they and the session give, and each heartbeat was sent
+-- where they give no item.
 pub record IsServing (address : List ℕ) (count : ℕ) (ending : Ending) (out : Told) (clock : Option ℕ) (front front' link link' : ports.Told) (now : Store) (found last : Rows) : Type 0 where
+  pub starts : is_boot_full found ≡ false
   pub rows : last ≡ log.started found LOG_CAPACITY
   pub started : Store
   pub end : End
