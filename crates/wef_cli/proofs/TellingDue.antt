@@ -33,7 +33,7 @@ use Rattle.wef_commands.specs.Writing.{EndsJudging, HasEvents, IsBad, bad_line, 
 use Rattle.wef_commands.specs.declared.ending.Ending.{Ending}
 use Rattle.wef_commands.specs.declared.ending.Ending.TheVariants as ends
 use Rattle.wef_commands.specs.declared.writing.TheConstants.{LOG_CAPACITY}
-use Rattle.wef_running.specs.Forwarding.{IsMoment}
+use Rattle.wef_serving.specs.Serving.{IsMoment}
 use Rattle.wef_cli.proofs.FormsStaying.{never_failed}
 use Rattle.wef_cli.specs.Due.{AddsAsDue, EventsAsDue, GoesWell, IsDueToAdd, IsWellRead, ListsAsDue, RemovesAsDue, ShowsAsDue, StatusesAsDue, TellsDue, WritesAsDue, adding_ending, once_begun, once_started, removing_ending, showing_ending, writing_ending}
 use Rattle.wef_cli.specs.Runs.{Peers, StatusEndsAt}

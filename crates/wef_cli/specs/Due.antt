@@ -13,7 +13,7 @@ use Rattle.wef_keeper.specs.Keeping.{IsLawful, Store}
 use Rattle.wef_keeper.specs.Rows.{Rows}
 use Rattle.wef_running.specs.ByRows.{CollectSays, ForwardSays}
 use Rattle.wef_subscribing.specs.ByRows.{RequestSays, ServeSays}
-use Rattle.wef_running.specs.Forwarding.{IsMoment}
+use Rattle.wef_serving.specs.Serving.{IsMoment}
 use Rattle.wef_source_log.specs.Answers.{is_boot_full}
 use Rattle.wef_source_log.specs.LogWindow as log
 use Rattle.wef_commands.specs.Adding.{IsRefused}

@@ -15,7 +15,8 @@ use Rattle.wef_commands.specs.Statuses.{StatusEnds}
 use Rattle.wef_commands.specs.declared.ending.Ending.{Ending}
 use Rattle.wef_commands.specs.declared.ending.Ending.TheVariants as ends
 use Rattle.wef_running.specs.Collecting.{CollectEnds}
-use Rattle.wef_running.specs.Forwarding.{ForwardEnds, IsMoment}
+use Rattle.wef_running.specs.Forwarding.{ForwardEnds}
+use Rattle.wef_serving.specs.Serving.{IsMoment}
 use Rattle.wef_subscribing.specs.Requesting.{RequestEnds}
 use Rattle.wef_subscribing.specs.Serving.{ServeEnds}
 use Rattle.wef_cli.specs.Replaying.{ReplayEnds}

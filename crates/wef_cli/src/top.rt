@@ -22,6 +22,7 @@ use wef_keeper::Keeper;
 use wef_ports::Clock;
 use wef_replay::{Line, ScheduleFault, read_schedule};
 use wef_running::{collect, forward};
+use wef_serving::present;
 use wef_subscribing::{request, serve};
 
 /// Runs `wef` with the words that follow the program's name, and answers the keeper that it was handed
@@ -171,7 +172,7 @@ fn status_now<O: Sink, K: Keeper, C: Clock>(
         (K.store keeper) (K.store result.0) }
     ensures clock { C.told clock.new ≡ C.told clock.old }
 {
-    let now = clock.now();
+    let now = present(clock);
     status(alloc, keeper, name, now, out)
 }
 

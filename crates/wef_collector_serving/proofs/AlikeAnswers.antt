@@ -146,4 +146,4 @@ module _ (final last : Rows) (request : HttpRequest) (now moment : ℕ) (answer 
   pub answered_alike : AnswersBy final now s request answer t → AnswersBy last moment u request other v → AreAnsweredAlike answer other t v
   answered_alike (heard, hears, is) (again, hears_too, also) =
       heard_alike heard is
-      (subst (λ (h : Heard). IsAnsweredBy last request.host h request.charset moment other u v) (sym (one_is_heard request.target request.charset request.body heard again hears hears_too)) also)
+      (subst (λ (h : Heard). IsAnsweredBy last request.host h request.charset moment other u v) (sym (one_is_heard request.target request.charset request.body heard again hears.0 hears_too.0)) also)

@@ -81,7 +81,7 @@ leaving_counts moment s request t (inr (heard, hears, is), lawful) = unanswered_
 calm : (moment : ℕ) (s : KnownCollector) (request : HttpRequest) (answer : Answer) (t : KnownCollector)
     → Answers moment s request answer t → (Rose s.store.faults t.store.faults → ⊥) → AnswersCalmly moment s request answer t
 calm moment s request answer t ((heard, hears, is), lawful) never =
-    ((heard, hears, (is, λ internal. unsure (Rose s.store.faults t.store.faults) t.store.rows (internal_errors_have_a_cause request.host request.target request.charset request.charset request.body heard moment answer s.memory t.memory s.store t.store hears is internal refl) never)), lawful)
+    ((heard, hears, (is, λ internal. unsure (Rose s.store.faults t.store.faults) t.store.rows (internal_errors_have_a_cause request.host request.target request.charset request.charset request.body heard moment answer s.memory t.memory s.store t.store hears.0 is internal refl) never)), lawful)
 
 module _ (side : Side) (clock : Option ℕ) where
   answered_counts : (s : KnownCollector) (request : HttpRequest) (answer : Answer) (t : KnownCollector) → AnswersAt clock Answers s request answer t → s.store.faults ≤ t.store.faults

@@ -424,7 +424,7 @@ module _ (clock : Option ℕ) where
           good = good;
           counted = λ formed below. count_up is.said s.store.faults t.store.faults
               (λ internal. surely (Rose s.store.faults t.store.faults) t.store.rows t.store.images last lawful.both lawful.among found (good formed)
-              (internal_errors_have_a_cause request.host request.target request.charset request.charset request.body heard moment answer s.memory t.memory s.store t.store hears is internal refl))
+              (internal_errors_have_a_cause request.host request.target request.charset request.charset request.body heard moment answer s.memory t.memory s.store t.store hears.0 is internal refl))
               (answer_counts moment s request answer t ((heard, hears, is), lawful)) below;
         };
         rises = leaving_rises heard.asked moment back.0 last (goes_leave request.host moment heard.asked is.said back.0 last back.2);

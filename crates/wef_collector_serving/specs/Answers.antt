@@ -2,6 +2,7 @@
 use Rattle.std.specs.Prelude.{◌≡◌, ◌⊎◌, ℕ, Option}
 use Rattle.wef_collector.specs.State.{CollectorState}
 use Rattle.wef_collector.specs.declared.memories.Memory.{Memory}
+use Rattle.wef_eventing.specs.Addresses.{IsHost}
 use Rattle.wef_front_collector.specs.Heard.{Hears}
 use Rattle.wef_front_collector.specs.Replies.{IsAnswer, IsUnanswered}
 use Rattle.wef_front_collector.specs.declared.hearing.Heard.{Heard}
@@ -22,9 +23,13 @@ pub record KnownCollector : Type 0 where
 abbrev pub known_of : {K : Type 0} → (K → Store) → CollectorState K → KnownCollector
 known_of store s = record { store = store s.keeper; memory = s.memory }
 
+-- This is heard in a request, which came to a host that an address may name.
+abbrev pub HearsRequest : HttpRequest → Heard → Type 0
+HearsRequest request heard = Hears request.target request.charset request.body heard × IsHost request.host
+
 -- a fact of what is heard in a request
 abbrev pub Hearing : HttpRequest → (Heard → Type 0) → Type 0
-Hearing request Holds = (heard : Heard) × Hears request.target request.charset request.body heard × Holds heard
+Hearing request Holds = (heard : Heard) × HearsRequest request heard × Holds heard
 
 -- an answer to what was heard in a request: it is in the charset of the request, and batches for what it offers come to its host
 abbrev pub AnswersHeard : ℕ → KnownCollector → HttpRequest → Answer → KnownCollector → Heard → Type 0

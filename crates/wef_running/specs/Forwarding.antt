@@ -1,5 +1,5 @@
 -- What `forward` sends and prints, and how it ends.
-use Rattle.std.specs.Prelude.{◌≡◌, ℕ, ◌-◌, ◌==◌, List, [], ◌∷◌, ◌++◌, drop, length, slice_get, ◌⊎◌, Option, Some, None, IfSome, Result, Ok, Err, codes, if◌then◌else◌}
+use Rattle.std.specs.Prelude.{◌≡◌, ℕ, ◌-◌, ◌==◌, List, [], ◌∷◌, ◌++◌, drop, length, slice_get, ◌⊎◌, Option, Some, None, Result, Ok, Err, codes, if◌then◌else◌}
 use Rattle.std.specs.Fmt.{decimal}
 use Rattle.std.specs.Io.KnownBytes.{Appends}
 use Rattle.std.specs.List.{flat_map}
@@ -14,6 +14,7 @@ use Rattle.wef_keeper.specs.Access.{OpensAndReads}
 use Rattle.wef_keeper.specs.Calls.{IsCall, fails}
 use Rattle.wef_keeper.specs.Keeping.{IsLawful, Store}
 use Rattle.wef_ports.specs.Telling as ports
+use Rattle.wef_serving.specs.Serving.{IsMoment}
 use Rattle.wef_source.specs.Answers.{RefusesStart}
 use Rattle.wef_source.specs.Calls.{start_effect}
 use Rattle.wef_building.specs.Faults.{source_store}
@@ -87,10 +88,6 @@ pub record Running : Type 0 where
   pub memory : End
   pub store : Store
   pub link : ports.Told
-
--- a moment of the clock, where it tells it
-abbrev pub IsMoment : Option ℕ → ℕ → Type 0
-IsMoment clock now = IfSome clock (λ m. now ≡ m)
 
 -- a session that isn't there, or has expired, has nothing to send
 abbrev pub unless_gone : Result Exchange FrontFault → Result Exchange FrontFault

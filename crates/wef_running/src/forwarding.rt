@@ -14,6 +14,7 @@ use wef_connections::Link;
 use wef_forwarding::{Exchange, FrontFault, ask_once, forward_once};
 use wef_keeper::Keeper;
 use wef_ports::Clock;
+use wef_serving::present;
 use wef_source::{SourceEnd, SourceFault};
 
 /// Starts the source of a name, asks the collector at an address for its subscriptions, and sends their
@@ -61,7 +62,7 @@ fn ask_and_send<K: Keeper, O: Sink, L: Link, C: Clock>(
         (record { memory = source.new.memory; store = K.store source.new.keeper; link = L.told link.new }) }
     ensures clock { C.told clock.new ≡ C.told clock.old }
 {
-    let now = clock.now();
+    let now = present(clock);
     match ask_once(alloc, link, source, address, now) {
         Ok(_) => announce_and_send(alloc, source, deliveries, out, link, clock),
         Err(fault) => front_ending(fault),
@@ -179,7 +180,7 @@ pub fn send_next<K: Keeper, O: Sink, L: Link, C: Clock>(
     ensures later { O.faults out.old ≤ O.faults out.new }
     ensures clock { C.told clock.new ≡ C.told clock.old }
 {
-    let now = clock.now();
+    let now = present(clock);
     let answer = forward_once(alloc, link, source, sub, now);
     match unless_gone(answer) {
         Ok(exchange) => match tell_exchange(sub, exchange, out) {

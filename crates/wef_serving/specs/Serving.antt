@@ -1,5 +1,6 @@
 -- What becomes of the bytes of a connection (RFC 9112, 9): requests that are answered one after the other, and how it ends.
-use Rattle.std.specs.Prelude.{◌≡◌, ◌⊎◌, ℕ, true, false, List, [], ◌++◌, take, Option, Some, None, IfSome}
+use Rattle.std.specs.Prelude.{◌≡◌, ◌⊎◌, ◌≤◌, ℕ, true, false, List, [], ◌++◌, take, Option, Some, None, IfSome}
+use Rattle.wef_base.specs.declared.moments.TheConstants.{LAST_MOMENT}
 use Rattle.wef_base.specs.declared.tree.Charset.TheVariants.{Utf8}
 use Rattle.wef_http_heads.specs.declared.answers.Answer.{Answer}
 use Rattle.wef_http.specs.Messages.{IsRequest, RefusesRequest}
@@ -12,9 +13,13 @@ use Rattle.wef_http.specs.Written.{has_body, is_status, response}
 use Rattle.wef_serving.specs.declared.ends.ConnectionEnd.{ConnectionEnd}
 use Rattle.wef_serving.specs.declared.ends.ConnectionEnd.TheVariants as over
 
--- at the moment that a clock tells, or at some moment where it tells none
+-- the moment that a clock tells, or some moment where it tells none; none is behind the greatest
+abbrev pub IsMoment : Option ℕ → ℕ → Type 0
+IsMoment clock moment = (moment ≤ LAST_MOMENT) × IfSome clock (λ told. moment ≡ told)
+
+-- at a moment of a clock
 abbrev pub AtMoment : Option ℕ → (ℕ → Type 0) → Type 0
-AtMoment clock Holds = (moment : ℕ) × IfSome clock (λ told. moment ≡ told) × Holds moment
+AtMoment clock Holds = (moment : ℕ) × IsMoment clock moment × Holds moment
 
 -- how an end answers a request, at the moment that the clock tells
 abbrev pub AnswersAt : {S : Type 0} → Option ℕ → (ℕ → S → HttpRequest → Answer → S → Type 0) → S → HttpRequest → Answer → S → Type 0

@@ -5,11 +5,13 @@
 pub mod answering;
 pub mod ends;
 pub mod fronts;
+pub mod moments;
 pub mod serving;
 mod turns;
 
 pub use answering::Answering;
 pub use ends::ConnectionEnd;
 pub use fronts::serve_next;
+pub use moments::present;
 pub use serving::serve;
 pub use wef_http_heads::Answer;

@@ -13,6 +13,7 @@ ghost use Rattle.wef_serving.specs.declared.ends.ConnectionEnd.TheVariants.{Port
 
 use crate::answering::Answering;
 use crate::ends::ConnectionEnd;
+use crate::moments::present;
 use std::alloc::Global;
 use wef_base::{Bytes, Charset};
 use wef_http::{HttpRequest, read_request, write_response};
@@ -59,7 +60,7 @@ fn answer_request<P: Port, E, A: Answering<E>, C: Clock>(
     ensures fault { IfErr result (λ over. over ≡ PortFailed → Rose (P.told port.old).faults (P.told port.new).faults) }
     ensures clock { C.told clock.new ≡ C.told clock.old }
 {
-    let now = clock.now();
+    let now = present(clock);
     let answer = how.answer(alloc, end, request, now)?;
     write_response(alloc, port, answer.status, request.charset, &answer.body)?;
     if request.keep {

@@ -19,7 +19,7 @@ use Rattle.wef_requesting.specs.ByRows.{Kept, RequestsOver}
 use Rattle.wef_requesting.specs.declared.requesting.RequestFault.{RequestFault}
 use Rattle.wef_requesting.specs.declared.requesting.Sent.{Sent}
 use Rattle.wef_running.specs.ByRows.{IsNotBegun, IsSentOver}
-use Rattle.wef_running.specs.Forwarding.{IsMoment}
+use Rattle.wef_serving.specs.Serving.{IsMoment}
 use Rattle.wef_source.specs.Machine.{End, start_of}
 use Rattle.wef_source_log.specs.Answers.{is_boot_full, next_boot}
 use Rattle.wef_source_log.specs.LogWindow as log

@@ -21,7 +21,8 @@ use Rattle.wef_requesting.specs.declared.requesting.Outcome.TheVariants.{Leased,
 use Rattle.wef_requesting.specs.declared.requesting.RequestFault.{RequestFault}
 use Rattle.wef_requesting.specs.declared.requesting.RequestFault.TheVariants as faults
 use Rattle.wef_requesting.specs.declared.requesting.Sent.{Sent}
-use Rattle.wef_running.specs.Forwarding.{EndsDone, IsMoment}
+use Rattle.wef_running.specs.Forwarding.{EndsDone}
+use Rattle.wef_serving.specs.Serving.{IsMoment}
 
 -- ---- what is printed
 

@@ -15,6 +15,7 @@ use wef_connections::Link;
 use wef_keeper::Keeper;
 use wef_ports::Clock;
 use wef_requesting::{Outcome, RequestFault, Sent, request_once};
+use wef_serving::present;
 
 /// Starts the collector, and sends the requests that are due, one after the other, at most so many. Its own
 /// address is where sources send their events. It tells of each request once its exchange is over.
@@ -87,7 +88,7 @@ fn request_next<K: Keeper, O: Sink, L: Link, C: Clock>(
     ensures later { O.faults out.old ≤ O.faults out.new }
     ensures clock { C.told clock.new ≡ C.told clock.old }
 {
-    let now = clock.now();
+    let now = present(clock);
     match request_once(alloc, link, collector, address, now) {
         Ok(Some(sent)) => match tell_request(alloc, &sent, out) {
             Ok(()) => Ok(Some(sent)),

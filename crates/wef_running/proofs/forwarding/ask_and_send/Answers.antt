@@ -17,6 +17,6 @@ returns-in-Ok-clause-ends g c =
     inr (
       c.in-Ok.field-0,
       mid,
-      record { moment = c.now-now.result; is_moment = c.now-now.ensures.moment; asked = c.in-Ok.ensures.asked; store = ap g.K.Keeper.store c.in-Ok.ensures.keeper },
-      subst (λ (m : Option ℕ). SendsFrom m c.args.deliveries c.announce_and_send.result out mid now) c.now-now.ensures.stays c.announce_and_send.ensures.ends,
+      record { moment = c.present-now.result; is_moment = c.present-now.ensures.moment; asked = c.in-Ok.ensures.asked; store = ap g.K.Keeper.store c.in-Ok.ensures.keeper },
+      subst (λ (m : Option ℕ). SendsFrom m c.args.deliveries c.announce_and_send.result out mid now) c.present-now.ensures.stays c.announce_and_send.ensures.ends,
     )

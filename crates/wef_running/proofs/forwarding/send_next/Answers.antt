@@ -10,8 +10,8 @@ returns-in-Err-clause-turn g c =
     inl (
       c.in-Err.fault,
       record {
-        moment = c.now-now.result;
-        is_moment = c.now-now.ensures.moment;
+        moment = c.present-now.result;
+        is_moment = c.present-now.ensures.moment;
         answer = c.forward_once-answer.result;
         forwards = c.forward_once-answer.ensures.forwards;
         reads = c.forward_once-answer.ensures.reads;

@@ -5,8 +5,8 @@ use Rattle.wef_subscribing.proofs.requesting.request_next.Goals as goal
 pub returns-in-Ok-clause-turn : goal.returns-in-Ok-clause-turn
 returns-in-Ok-clause-turn g c = (
   record {
-    moment = c.now-now.result;
-    is_moment = c.now-now.ensures.moment;
+    moment = c.present-now.result;
+    is_moment = c.present-now.ensures.moment;
     requests = rw c.in-Ok-Some.field-0-is at c.in-Ok-Some.ensures.requests;
     lawful = g.met.K.Keeper.lawful c.request_once.new.collector.keeper;
   },
@@ -18,8 +18,8 @@ returns-in-Err-tell_request-clause-turn g c =
     inr (
       c.in-Ok-Some.sent,
       record {
-        moment = c.now-now.result;
-        is_moment = c.now-now.ensures.moment;
+        moment = c.present-now.result;
+        is_moment = c.present-now.ensures.moment;
         requests = rw c.in-Ok-Some.field-0-is at c.in-Ok-Some.ensures.requests;
         lawful = g.met.K.Keeper.lawful c.request_once.new.collector.keeper;
       },
@@ -31,8 +31,8 @@ returns-in-Err-clause-turn g c =
     inl (
       c.in-Err.fault,
       record {
-        moment = c.now-now.result;
-        is_moment = c.now-now.ensures.moment;
+        moment = c.present-now.result;
+        is_moment = c.present-now.ensures.moment;
         requests = c.in-Err.ensures.requests;
         lawful = g.met.K.Keeper.lawful c.request_once.new.collector.keeper;
       },
