@@ -154,6 +154,14 @@ at_serve (a ∷ b ∷ []) p few = inr (some_fault _ MissingRequiredArgument (rw 
 at_serve (a ∷ b ∷ c ∷ []) p few = inl (rw (p.0.dashes, p.0.long, p.0.short, p.1.0.dashes, p.1.0.long, p.1.0.short, p.1.1.0.dashes, p.1.1.0.long, p.1.1.0.short) refl, rw (p.0.dashes, p.0.long, p.0.short, p.1.0.dashes, p.1.0.long, p.1.0.short, p.1.1.0.dashes, p.1.1.0.long, p.1.1.0.short) refl)
 at_serve (a ∷ b ∷ c ∷ d ∷ words) p few = absurd (omega (arith, few))
 
+at_made : IsShort (codes "made")
+unfolding clap_on_literals app
+at_made [] p few = inr (some_fault _ MissingRequiredArgument refl, refl)
+at_made (a ∷ []) p few = inr (some_fault _ MissingRequiredArgument (rw (p.0.dashes, p.0.long, p.0.short) refl), refl)
+at_made (a ∷ b ∷ []) p few = inl (rw (p.0.dashes, p.0.long, p.0.short, p.1.0.dashes, p.1.0.long, p.1.0.short) refl, rw (p.0.dashes, p.0.long, p.0.short, p.1.0.dashes, p.1.0.long, p.1.0.short) refl)
+at_made (a ∷ b ∷ c ∷ []) p few = inr (some_fault _ UnknownArgument (rw (p.0.dashes, p.0.long, p.0.short, p.1.0.dashes, p.1.0.long, p.1.0.short, p.1.1.0.dashes, p.1.1.0.long, p.1.1.0.short) refl), refl)
+at_made (a ∷ b ∷ c ∷ d ∷ words) p few = absurd (omega (arith, few))
+
 -- a fact of each of these names
 abbrev Each : List (List ℕ) → Type 0
 Each [] = Unit {0}
@@ -171,7 +179,7 @@ named word [] each e = absurd (true≢false (sym e))
 named word (name ∷ rest) each e = both_of word name (list_any (same word) rest) e each.0 (λ more. named word rest each.1 more)
 
 all_agree : Each names
-all_agree = (at_replay, (at_check, (at_add, (at_remove, (at_write, (at_list, (at_show, (at_status, (at_events, (at_collect, (at_request, (at_forward, (at_serve, tt)))))))))))))
+all_agree = (at_replay, (at_check, (at_add, (at_remove, (at_write, (at_list, (at_show, (at_status, (at_events, (at_collect, (at_request, (at_forward, (at_serve, (at_made, tt))))))))))))))
 
 few : (n : ℕ) → nat_le n 4 ≡ true → n ≤ 4
 few n e = grind (arith, nat_tests, e)

@@ -1,4 +1,5 @@
 mod Apps
+mod Digits
 mod Firsts
 mod Found
 mod Lines

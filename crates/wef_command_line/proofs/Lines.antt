@@ -21,7 +21,7 @@ is_none word (name ∷ rest) e = let parts = neither (same word name) _ e in (pa
 unnamed : (name : List ℕ) (words : List (List ℕ)) → IsNone name names → command_in (name ∷ words) ≡ None
 unnamed name [] e = rw (e.0, e.1.0, e.1.1.0, e.1.1.1.1.0, e.1.1.1.1.1.0, e.1.1.1.1.1.1.0) refl
 unnamed name (word ∷ []) e = rw (e.1.1.1.0, e.1.1.1.1.1.1.1.0) refl
-unnamed name (at ∷ number ∷ []) e = rw (e.1.1.1.1.1.1.1.1.1.0, e.1.1.1.1.1.1.1.1.1.1.0) refl
+unnamed name (at ∷ number ∷ []) e = rw (e.1.1.1.1.1.1.1.1.1.0, e.1.1.1.1.1.1.1.1.1.1.0, e.1.1.1.1.1.1.1.1.1.1.1.1.1.0) refl
 unnamed name (first ∷ second ∷ third ∷ []) e = rw (e.1.1.1.1.1.1.1.1.0, e.1.1.1.1.1.1.1.1.1.1.1.0, e.1.1.1.1.1.1.1.1.1.1.1.1.0) refl
 unnamed name (first ∷ second ∷ third ∷ fourth ∷ words) e = refl
 

@@ -40,9 +40,9 @@ abbrev pub with_all : List Shape → App → App
 with_all [] app = app
 with_all (command ∷ commands) app = with_all commands (with_subcommand app command)
 
--- the commands that read a text and leave the store alone
+-- the commands that leave the store alone
 abbrev pub schedules : List Shape
-schedules = command (codes "replay") [] ∷ command (codes "check") [] ∷ []
+schedules = command (codes "replay") [] ∷ command (codes "check") [] ∷ command (codes "made") (codes "SEED" ∷ codes "SIZE" ∷ []) ∷ []
 
 -- the commands that change what the store keeps
 abbrev pub calls : List Shape

@@ -1,4 +1,4 @@
--- The command lines: `replay`, `add`, `remove NAME`, `list`, `check`, `write`, `collect ADDRESS N`, `forward ADDRESS SOURCE N`,
+-- The command lines: `replay`, `made SEED SIZE`, `add`, `remove NAME`, `list`, `check`, `write`, `collect ADDRESS N`, `forward ADDRESS SOURCE N`,
 -- `show`, `events NAME SOURCE CHANNEL`, `status NAME`, `request ADDRESS N` and `serve ADDRESS SOURCE N`. No word of one begins with
 -- `-`.
 use Rattle.std.specs.Prelude.{ℕ, ◌==◌, nat_le, nat_lt, Bool, false, ◌&&◌, not, List, [], ◌∷◌, length, Option, Some, None, codes, if◌then◌else◌}
@@ -47,6 +47,26 @@ unless_zero n = if n == 0 then None else Some n
 abbrev pub number_of : List ℕ → Option ℕ
 number_of word = option_and_then unless_zero (plain_number greatest_number word)
 
+-- the greatest number that a schedule is made from
+abbrev pub greatest_seed : ℕ
+greatest_seed = 18446744073709551615
+
+-- the number that a word is which a schedule is made from: digits without a leading zero, below 2 ^ 64
+abbrev pub seed_of : List ℕ → Option ℕ
+seed_of word = plain_number greatest_seed word
+
+-- the greatest number of draws of a made schedule
+abbrev pub greatest_size : ℕ
+greatest_size = 100000
+
+-- the number of draws that a word is: digits without a leading zero, at most 100,000
+abbrev pub size_of : List ℕ → Option ℕ
+size_of word = plain_number greatest_size word
+
+-- the command that runs the schedule that a seed makes, with so many draws
+abbrev pub made_of : List ℕ → List ℕ → Option Command
+made_of seed size = option_and_then (λ s. option_map (the.Made s) (size_of size)) (seed_of seed)
+
 -- the command that ends the subscription of a name
 abbrev pub remove_of : List ℕ → Option Command
 remove_of word = option_map the.Remove (subscription_name word)
@@ -88,7 +108,8 @@ command_of_one name word =
 abbrev pub command_of_two : List ℕ → List ℕ → List ℕ → Option Command
 command_of_two name at number =
     if same name (codes "collect") then collect_of at number else
-    if same name (codes "request") then request_of at number else None
+    if same name (codes "request") then request_of at number else
+    if same name (codes "made") then made_of at number else None
 
 -- the command of a name and three words behind it
 abbrev pub command_of_three : List ℕ → List ℕ → List ℕ → List ℕ → Option Command
@@ -113,7 +134,7 @@ command_of words = if list_any begins_with_dash words then None else command_in 
 abbrev pub names : List (List ℕ)
 names =
     codes "replay" ∷ codes "check" ∷ codes "add" ∷ codes "remove" ∷ codes "write" ∷ codes "list" ∷ codes "show" ∷ codes "status"
-    ∷ codes "events" ∷ codes "collect" ∷ codes "request" ∷ codes "forward" ∷ codes "serve" ∷ []
+    ∷ codes "events" ∷ codes "collect" ∷ codes "request" ∷ codes "forward" ∷ codes "serve" ∷ codes "made" ∷ []
 
 abbrev pub is_name : List ℕ → Bool
 is_name word = list_any (same word) names

@@ -3,7 +3,7 @@ use Rattle.clap.specs.Walk.{Row, first_of}
 use Rattle.std.specs.Option.{option_and_then, option_map}
 use Rattle.std.specs.Prelude.{ℕ, List, Option, codes, if◌then◌else◌}
 use Rattle.wef_base.specs.Names.{channel_name, same, source_name, subscription_name}
-use Rattle.wef_command_line.specs.Command.{address_of, command_named, number_of}
+use Rattle.wef_command_line.specs.Command.{address_of, command_named, number_of, seed_of, size_of}
 use Rattle.wef_command_line.specs.declared.command.Command.{Command}
 use Rattle.wef_command_line.specs.declared.command.Command.TheVariants as the
 
@@ -21,6 +21,15 @@ address_in found = option_and_then address_of (first_of (codes "ADDRESS") found)
 
 abbrev pub number_in : List Row → Option ℕ
 number_in found = option_and_then number_of (first_of (codes "N") found)
+
+abbrev pub seed_in : List Row → Option ℕ
+seed_in found = option_and_then seed_of (first_of (codes "SEED") found)
+
+abbrev pub size_in : List Row → Option ℕ
+size_in found = option_and_then size_of (first_of (codes "SIZE") found)
+
+abbrev pub made_in : List Row → Option Command
+made_in found = option_and_then (λ s. option_map (the.Made s) (size_in found)) (seed_in found)
 
 abbrev pub remove_in : List Row → Option Command
 remove_in found = option_map the.Remove (name_in found)
@@ -52,6 +61,7 @@ command_by name found =
     if same name (codes "remove") then remove_in found else
     if same name (codes "status") then status_in found else
     if same name (codes "events") then events_in found else
+    if same name (codes "made") then made_in found else
     if same name (codes "collect") then collect_in found else
     if same name (codes "request") then request_in found else
     if same name (codes "forward") then forward_in found else

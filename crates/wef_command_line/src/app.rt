@@ -48,12 +48,13 @@ fn start<'a>(alloc: Global) -> Command<'a>
         .subcommand_required(true)
 }
 
-/// The commands that read a text and leave the store alone.
+/// The commands that leave the store alone.
 fn with_schedules<'a>(alloc: Global, app: Command<'a>) -> Result<Command<'a>, AllocError>
     ensures { IfOk result (λ more. app_of more ≡ spec.with_all spec.schedules (app_of app.entry)) }
 {
     let app = with_alone(alloc, app, "replay")?;
-    with_alone(alloc, app, "check")
+    let app = with_alone(alloc, app, "check")?;
+    with_two(alloc, app, "made", "SEED", "SIZE")
 }
 
 /// The commands that change what the store keeps.

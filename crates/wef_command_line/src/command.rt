@@ -9,7 +9,7 @@ ghost use Rattle.wef_command_line.specs.Command as spec;
 ghost use Rattle.wef_command_line.specs.Values as by;
 
 use crate::app::parsed;
-use crate::values::{address, channel, number, source, subscription};
+use crate::values::{address, channel, number, seed, size, source, subscription};
 use clap::ArgMatches;
 use std::alloc::{AllocError, Global};
 use wef_base::{ChannelName, SourceName, SubId, Text};
@@ -19,6 +19,13 @@ use wef_base::{ChannelName, SourceName, SubId, Text};
 pub enum Command {
     /// Reads a schedule, does its lines, and writes what they print.
     Replay,
+    /// Runs the schedule that a seed makes, and writes a summary of what came of it.
+    Made {
+        /// What the schedule is made from.
+        seed: u64,
+        /// How many numbers are drawn for it, at most 100,000.
+        size: u32,
+    },
     /// Reads a subscription document, and adds its subscription.
     Add,
     /// Ends a subscription.
@@ -128,6 +135,9 @@ impl Command {
         if name == "events" {
             return Command::events(alloc, found);
         }
+        if name == "made" {
+            return Command::made(alloc, found);
+        }
         if name == "collect" {
             return Command::collect(alloc, found);
         }
@@ -166,6 +176,19 @@ impl Command {
             return Some(Command::Show);
         }
         None
+    }
+
+    /// The command that runs a made schedule.
+    fn made(alloc: Global, found: &ArgMatches<'_>) -> Result<Option<Command>, AllocError>
+        ensures { IfOk result (λ command. command ≡ by.made_in (rows_of (found_of found.now))) }
+    {
+        let Some(seed) = seed(alloc, found)? else {
+            return Ok(None);
+        };
+        match size(alloc, found)? {
+            Some(size) => Ok(Some(Command::Made { seed, size })),
+            None => Ok(None),
+        }
     }
 
     /// The command that ends a subscription.
@@ -328,6 +351,7 @@ fn is_name(word: &str) -> bool
         || word == "request"
         || word == "forward"
         || word == "serve"
+        || word == "made"
 }
 
 /// The words, as clap takes them.
