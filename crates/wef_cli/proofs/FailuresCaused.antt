@@ -143,6 +143,8 @@ writing_caused input out before now (inr (events, has, ended)) = events_caused e
 pub fails_with_cause : FailsWithCause
 fails_with_cause None input out peers before now ended = absurd ended.0
 fails_with_cause (Some the.Replay) input out peers before now ended = absurd ended.0
+fails_with_cause (Some (the.Made seed size)) input out peers before now (kept, inl wrote, same, unused) = absurd wrote
+fails_with_cause (Some (the.Made seed size)) input out peers before now (kept, inr (is, unwritten), same, unused) = absurd (not_failed ends.NoMemory refl is)
 fails_with_cause (Some the.Check) input out peers before now ended = absurd ended.0
 fails_with_cause (Some (the.Collect address connections)) input out peers before now (kept, ended, link) =
     collect_caused address connections out peers.moment peers.front_before peers.front_after before now ended

@@ -322,6 +322,8 @@ collect_formed address connections out clock f g before now found stand formed (
 module _ (input out : Told) (peers : Peers) (before now : Store) (found : Rows) (stand : Stand before found) (lawful : IsLawful now) where
   run_formed : (command : Command) → AreFormedFor (Some command) found → RunEnds (Some command) ends.StoreFailed input out peers before now → AreGood (AreFormedFor (Some command)) now
   run_formed the.Replay formed ended = absurd ended.0
+  run_formed (the.Made seed size) formed (kept, inl wrote, same, unused) = absurd wrote
+  run_formed (the.Made seed size) formed (kept, inr (is, unwritten), same, unused) = absurd (not_failed ends.NoMemory refl is)
   run_formed the.Check formed ended = absurd ended.0
   run_formed (the.Collect address connections) formed (kept, ended, link) = collect_formed address connections out peers.moment peers.front_before peers.front_after before now found stand formed ended
   run_formed the.Write formed (inl (judged, unwritten, same), unused) = absurd judged

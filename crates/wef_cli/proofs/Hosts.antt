@@ -8,7 +8,7 @@ use Rattle.std.specs.Prelude.{Option, None, Some, IfSome, codes}
 use Rattle.wef_base.specs.Names.{channel_name, same, source_name, subscription_name}
 use Rattle.wef_eventing.specs.Addresses.{IsHost}
 use Rattle.wef_cli.specs.Hosting.{HasHost}
-use Rattle.wef_command_line.specs.Command.{address_of, begins_with_dash, collect_of, command_in, command_named, command_of, events_of, forward_of, is_address, is_printed, number_of, remove_of, request_of, serve_of, status_of}
+use Rattle.wef_command_line.specs.Command.{address_of, begins_with_dash, collect_of, command_in, command_named, command_of, events_of, forward_of, is_address, is_printed, made_of, number_of, remove_of, request_of, seed_of, serve_of, size_of, status_of}
 use Rattle.wef_command_line.specs.declared.command.Command.{Command}
 use Rattle.wef_command_line.specs.declared.command.Command.TheVariants as the
 
@@ -23,12 +23,12 @@ steps : {A : Type 0} (P : A → Type 0) (o : Option A) (more : A → Option Comm
 steps P None more is h = tt
 steps P (Some a) more is h = h a is
 
-abbrev Any : List ℕ → Type 0
-Any name = Unit {0}
+abbrev Any : {A : Type 0} → A → Type 0
+Any a = Unit {0}
 
-anything : (o : Option (List ℕ)) → IfSome o Any
+anything : {A : Type 0} (o : Option A) → IfSome o Any
 anything None = tt
-anything (Some name) = tt
+anything (Some a) = tt
 
 made : {A : Type 0} (o : Option A) (command : A → Command) → ((a : A) → HasHost (command a)) → Good (option_map command o)
 made None command h = tt
@@ -58,6 +58,9 @@ serve_host : (at source number : List ℕ) → Good (serve_of at source number)
 serve_host at source number =
     steps IsHost (address_of at) _ (address_is at) (λ address is. steps Any (source_name source) _ (anything (source_name source)) (λ s any. made (number_of number) (the.Serve address s) (λ n. tt)))
 
+made_host : (seed size : List ℕ) → Good (made_of seed size)
+made_host seed size = steps Any (seed_of seed) _ (anything (seed_of seed)) (λ s any. made (size_of size) (the.Made s) (λ n. tt))
+
 events_host : (name source channel : List ℕ) → Good (events_of name source channel)
 events_host name source channel =
     steps Any (subscription_name name) _ (anything (subscription_name name)) (λ u any.
@@ -80,7 +83,8 @@ in_host (name ∷ word ∷ []) =
     (choose (same name (codes "status")) (status_of word) None (made (subscription_name word) the.Status (λ u. tt)) tt)
 in_host (name ∷ at ∷ number ∷ []) =
     choose (same name (codes "collect")) (collect_of at number) _ (collect_host at number)
-    (choose (same name (codes "request")) (request_of at number) None (request_host at number) tt)
+    (choose (same name (codes "request")) (request_of at number) _ (request_host at number)
+    (choose (same name (codes "made")) (made_of at number) None (made_host at number) tt))
 in_host (name ∷ first ∷ second ∷ third ∷ []) =
     choose (same name (codes "forward")) (forward_of first second third) _ (forward_host first second third)
     (choose (same name (codes "serve")) (serve_of first second third) _ (serve_host first second third)

@@ -22,6 +22,7 @@ as_before before now found last same stand may = untouched before found last sta
 pub runs_leave : AddLeaves → RemoveLeaves → ReadersLeave → WriteLeaves → CollectsByRows → ForwardsByRows → RequestsByRows → ServesByRows → RunsLeave
 runs_leave add remove readers write collect forward request serve None ending input out peers before now ends lawful found last stand may = as_before before now found last ends.3 stand may
 runs_leave add remove readers write collect forward request serve (Some the.Replay) ending input out peers before now ends lawful found last stand may = as_before before now found last ends.1 stand may
+runs_leave add remove readers write collect forward request serve (Some (the.Made seed size)) ending input out peers before now ends lawful found last stand may = as_before before now found last ends.2 stand may
 runs_leave add remove readers write collect forward request serve (Some the.Check) ending input out peers before now ends lawful found last stand may = as_before before now found last ends.1 stand may
 runs_leave add remove readers write collect forward request serve (Some the.Add) ending input out peers before now ends lawful found last stand may = add ending input out before now ends.0 lawful found last stand may
 runs_leave add remove readers write collect forward request serve (Some (the.Remove u)) ending input out peers before now ends lawful found last stand may = remove u ending out before now ends.1 lawful found last stand may

@@ -1,5 +1,5 @@
 -- Where memory is wanting to read the words, nothing is done.
-use Rattle.std.proofs.Common.{◌∙◌, ℕ, List, inl, refl, sym}
+use Rattle.std.proofs.Common.{◌∙◌, ℕ, List, inl, inr, refl, sym}
 use Rattle.std.proofs.lemmas.List.{append-nil}
 use Rattle.std.specs.Prelude.{Option, None, Some, IfSome, Result}
 use Rattle.std.specs.declared.result.Result.TheVariants.{Ok, Err}
@@ -35,6 +35,7 @@ pub nothing_done : (command : Option Command) (input out : Told) (peers : Peers)
     → RunEnds command ends.NoMemory input out peers store store
 nothing_done None input out peers store kept unwritten unused = (tt, kept, unwritten, refl, unused)
 nothing_done (Some the.Replay) input out peers store kept unwritten unused = (none_done input.before out unwritten, refl, unused)
+nothing_done (Some (the.Made seed size)) input out peers store kept unwritten unused = (kept, inr (refl, unwritten), refl, unused)
 nothing_done (Some the.Add) input out peers store kept unwritten unused = (inl (tt, unwritten, refl), unused)
 nothing_done (Some (the.Remove u)) input out peers store kept unwritten unused = (kept, inl (refl, unwritten, refl), unused)
 nothing_done (Some the.List) input out peers store kept unwritten unused = (kept, inl (refl, unwritten, refl), unused)

@@ -17,6 +17,7 @@ use Rattle.wef_command_line.specs.declared.command.Command.TheVariants as the
 -- What a command that ended so has done to the rows that stood before it, and to those that an opening finds after it.
 abbrev pub Says : Command → Ending → Told → Told → Peers → Store → Store → Rows → Rows → Type 0
 Says the.Replay ending input out peers before now found last = last ≡ found
+Says (the.Made seed size) ending input out peers before now found last = last ≡ found
 Says the.Check ending input out peers before now found last = last ≡ found
 Says the.Add ending input out peers before now found last = (last ≡ found) ⊎ ((s : Subscription) × HasDocument s input × CallsAtMost (λ rows. add_effect rows s) found last)
 Says (the.Remove u) ending input out peers before now found last = CallsAtMost (λ rows. end_effect rows u) found last

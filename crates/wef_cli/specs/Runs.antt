@@ -19,6 +19,7 @@ use Rattle.wef_running.specs.Forwarding.{ForwardEnds}
 use Rattle.wef_serving.specs.Serving.{IsMoment}
 use Rattle.wef_subscribing.specs.Requesting.{RequestEnds}
 use Rattle.wef_subscribing.specs.Serving.{ServeEnds}
+use Rattle.wef_cli.specs.Making.{MadeEnds}
 use Rattle.wef_cli.specs.Replaying.{ReplayEnds}
 use Rattle.wef_command_line.specs.declared.command.Command.{Command}
 use Rattle.wef_command_line.specs.declared.command.Command.TheVariants as the
@@ -56,6 +57,8 @@ StatusEndsAt clock u ending out before now = (moment : ℕ) × IsMoment clock mo
 abbrev pub RunEnds : Option Command → Ending → Told → Told → Peers → Store → Store → Type 0
 RunEnds None ending input out peers before now = IsNotBegun ending input out peers before now
 RunEnds (Some the.Replay) ending input out peers before now = ReplayEnds ending input out × (now ≡ before) × AreUnused peers
+RunEnds (Some (the.Made seed size)) ending input out peers before now =
+    Keeps input.before input.after × MadeEnds seed size ending out × (now ≡ before) × AreUnused peers
 RunEnds (Some the.Add) ending input out peers before now = AddEnds ending input out before now × AreUnused peers
 RunEnds (Some (the.Remove u)) ending input out peers before now = Keeps input.before input.after × RemoveEnds u ending out before now × AreUnused peers
 RunEnds (Some the.List) ending input out peers before now =

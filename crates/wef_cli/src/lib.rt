@@ -3,6 +3,7 @@
 #![tactic(auto)]
 
 pub mod laws;
+mod making;
 mod runs;
 mod top;
 

@@ -9,6 +9,7 @@ ghost use Rattle.wef_commands.specs.Endings.{IsToldAs, WroteMessage, status_of, 
 ghost use Rattle.wef_commands.specs.declared.ending.Ending as the_ending;
 ghost use Rattle.wef_replay.specs.Good.{AreGood, no_names};
 
+use crate::making::made;
 use crate::runs::{RunFault, run_lines};
 use std::alloc::Global;
 use wef_base::{List, Sink, Source, SubId, Text};
@@ -29,7 +30,9 @@ use wef_subscribing::{request, serve};
 /// and the exit status.
 ///
 /// `replay` reads a schedule to its end, checks it whole, does its lines and writes what they print as
-/// it is made. Each state on the way is kept, and so it is safe. It leaves the keeper alone. `add` adds
+/// it is made. Each state on the way is kept, and so it is safe. It leaves the keeper alone. `made SEED SIZE`
+/// does the lines of the schedule that a seed makes, of so many drawn numbers, and writes the summary of the
+/// world that they leave; it leaves the keeper alone, too. `add` adds
 /// the subscription of a document to what the keeper keeps, `remove NAME` ends one, and `list` writes
 /// which there are. `check` reads a list of queries and, line by line, events, and writes of each event
 /// whether the list selects it; it leaves the keeper alone, too. `write` reads lines of events, checks
@@ -115,6 +118,7 @@ fn act<I: Source, O: Sink, K: Keeper, F: Front, L: Link, C: Clock>(
 {
     match command {
         Command::Replay => (keeper, replay(alloc, input, out)),
+        Command::Made { seed, size } => (keeper, made(alloc, seed, size, out)),
         Command::Add => add(alloc, keeper, input, out),
         Command::Remove(name) => remove(alloc, keeper, name, out),
         Command::List => list(alloc, keeper, out),

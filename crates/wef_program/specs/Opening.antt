@@ -10,6 +10,7 @@ use Rattle.wef_keeper.specs.Keeping.{KeepsRows, Store}
 abbrev pub asks_store : Option Command → Bool
 asks_store None = false
 asks_store (Some the.Replay) = false
+asks_store (Some (the.Made seed size)) = false
 asks_store (Some the.Check) = false
 asks_store (Some command) = true
 

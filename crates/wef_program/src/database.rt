@@ -77,7 +77,7 @@ fn uses_store(words: &[Text]) -> bool
     ensures { result ≡ true → asks_store (command_of words.now) ≡ true }
 {
     match Command::read(words) {
-        Ok(Some(Command::Replay | Command::Check)) => false,
+        Ok(Some(Command::Replay | Command::Made { .. } | Command::Check)) => false,
         Ok(Some(_)) => true,
         Ok(None) | Err(_) => false,
     }
