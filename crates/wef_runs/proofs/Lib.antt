@@ -4,6 +4,8 @@ pub mod Awaited
 pub mod Done
 pub mod Fitting
 pub mod Forwarded
+pub mod Readings
 pub mod Recorded
+pub mod ResponsesSaid
 pub mod Served
 pub mod Taken

@@ -1,6 +1,7 @@
 -- What a collector does at once to the rows that stand in its store. Each deed commits once at most: so a kill leaves the rows
 -- before the deed that it comes in, or those behind it.
-use Rattle.std.specs.Prelude.{◌≡◌, ℕ, List, [], ◌∷◌, Option, Some}
+use Rattle.std.specs.Prelude.{◌≡◌, ◌≤◌, ℕ, List, [], ◌∷◌, Option, Some}
+use Rattle.wef_base.specs.declared.moments.TheConstants.{LAST_MOMENT}
 use Rattle.wef_batch.specs.declared.items.Batch.{Batch}
 use Rattle.wef_collector.specs.Asking.{next_request}
 use Rattle.wef_collector.specs.Calls.{add_effect, end_effect}
@@ -10,7 +11,10 @@ use Rattle.wef_collector.specs.declared.asking.Request.{Request}
 use Rattle.wef_collector.specs.declared.responses.Response.{Response}
 use Rattle.wef_collector_leases.specs.declared.waiting.Waiting.{Waiting}
 use Rattle.wef_collector_serving.specs.ByRows.{Goes}
+use Rattle.wef_commands.specs.Adding.{IsReadAgain}
 use Rattle.wef_commands.specs.Laws.{StartsAtMost}
+use Rattle.wef_documents.specs.Laws.{HasKeptNames}
+use Rattle.wef_eventing.specs.Addresses.{IsHost}
 use Rattle.wef_eventing.specs.declared.subscriptions.Subscription.{Subscription}
 use Rattle.wef_front_collector.specs.Steps.{effect_in}
 use Rattle.wef_front_collector.specs.declared.hearing.Asked.{Asked}
@@ -23,6 +27,7 @@ use Rattle.wef_ids.specs.declared.ids.Ids.{Ids}
 use Rattle.wef_keeper.specs.Calls.{MayLeave}
 use Rattle.wef_keeper.specs.Rows.{Rows}
 use Rattle.wef_pairs.specs.Pairs.{subscription_at}
+use Rattle.wef_safety.specs.Kept.{IsSaid}
 
 -- ---- deeds
 
@@ -60,6 +65,16 @@ IsCut (Takes waits answer moment) found last = MayLeave (waiting_effect waits an
 abbrev pub Does : Deed → Rows → Rows → Type 0
 Does (Answers host heard moment id said) found last = Goes host heard.asked moment said found last
 Does deed found last = IsCut deed found last
+
+-- What is so of whatever a run reads: a document has names that read back, and reads back itself; a request came to a host that an
+-- address may name; an answer names a session by a text without spaces at its ends, for no longer than a duration may be; and clocks are
+-- before the year 10000.
+abbrev pub IsRead : Deed → Type 0
+IsRead (Adds s) = HasKeptNames s × IsReadAgain s
+IsRead (Answers host heard moment id said) = (moment ≤ LAST_MOMENT) × IsHost host
+IsRead (Leaves heard moment) = moment ≤ LAST_MOMENT
+IsRead (Takes waits answer moment) = (moment ≤ LAST_MOMENT) × IsSaid answer
+IsRead deed = Unit {0}
 
 -- deeds are done, one after the other, each with the rows that the one before it left
 abbrev pub AreDone : List Deed → Rows → Rows → Type 0

@@ -8,7 +8,7 @@ use Rattle.wef_commands.specs.Laws.{Stand}
 use Rattle.wef_commands.specs.declared.ending.Ending.{Ending}
 use Rattle.wef_keeper.specs.Keeping.{IsLawful, MayFind, Store}
 use Rattle.wef_keeper.specs.Rows.{Rows}
-use Rattle.wef_runs.specs.Deeds.{AreDone, Deed, Keeps, Stay}
+use Rattle.wef_runs.specs.Deeds.{AreDone, Deed, IsRead, Keeps, Stay}
 use Rattle.wef_runs.specs.Runs.{Account, HaveRun, OfCollector, deeds_of}
 
 -- Each run of a command over a store that tells its rows has an account of what it did to them, for any that an opening may find
@@ -23,6 +23,10 @@ RunsAreAccounted =
 -- A run of one of its commands did these deeds, one after the other.
 abbrev pub CollectorRunsAreDeeds : Type 0
 CollectorRunsAreDeeds = (command : Command) (found last : Rows) (run : Account command found last) → OfCollector command → AreDone (deeds_of run) found last
+
+-- What it read is so as it is of whatever is read.
+abbrev pub RunsReadSo : Type 0
+RunsReadSo = (command : Command) (found last : Rows) (run : Account command found last) → AllByRecursion IsRead (deeds_of run)
 
 -- Behind deeds, whatever stood before them stays: no subscription is forgotten, no bookmark is lower; and each batch that they took
 -- lies within the bookmark of its source.

@@ -1,7 +1,7 @@
 //! Laws of runs over one store, each the contract of a function that does nothing.
 
 ghost use Rattle.wef_runs.specs.Forwarded.{ForwardsFit};
-ghost use Rattle.wef_runs.specs.Laws.{CollectorRunsAreDeeds, RunsAreAccounted, RunsKeepTaken, TakenStaysKept};
+ghost use Rattle.wef_runs.specs.Laws.{CollectorRunsAreDeeds, RunsAreAccounted, RunsKeepTaken, RunsReadSo, TakenStaysKept};
 ghost use Rattle.wef_runs.specs.Recorded.{WritesTellHistory};
 ghost use Rattle.wef_runs.specs.Served.{ServesFit};
 
@@ -15,11 +15,14 @@ pub fn runs_are_accounted()
 }
 
 /// What a collector took is kept. A run of one of its commands is a chain of deeds, each of which commits
-/// once at most (`deeds`). Behind it no subscription is forgotten and no bookmark is lower, and each batch
-/// that it took, acknowledged or not, lies within the bookmark of its source (`run`). So it is behind any
-/// runs, ended or killed anywhere (`runs`). Nothing is asked of whoever sends.
+/// once at most (`deeds`). A document that it read has names that read back, and reads back itself, requests
+/// came to hosts that addresses may name, and its moments are before the year 10000 (`read`). Behind it no
+/// subscription is forgotten and no bookmark is lower, and each batch that it took, acknowledged or not, lies
+/// within the bookmark of its source (`run`). So it is behind any runs, ended or killed anywhere (`runs`).
+/// Nothing is asked of whoever sends.
 pub fn what_was_taken_is_kept()
     ensures deeds { CollectorRunsAreDeeds }
+    ensures read { RunsReadSo }
     ensures run { RunsKeepTaken }
     ensures runs { TakenStaysKept }
 {}
