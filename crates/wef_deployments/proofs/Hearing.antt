@@ -2,12 +2,14 @@
 use Rattle.std.proofs.Common.{◌≡◌, inl, inr, ℕ, ◌+◌, ◌≤◌, ◌==◌, Bool, true, false, cond, List, [], ◌∷◌, ◌++◌, ap, sym, refl, subst, ◌∙◌, arith, append-nil}
 use Rattle.std.proofs.lemmas.Bool.Decides.{nat_tests}
 use Rattle.std.proofs.lemmas.Option.{none-some, same_Some}
+use Rattle.std.proofs.lemmas.Str.{is_utf8-from_IsUtf8}
 use Rattle.std.specs.Cmp.Lexicographic.{slice_cmp}
 use Rattle.std.specs.FinMap as finite
 use Rattle.std.specs.List.{AllByRecursion}
 use Rattle.std.specs.Ordering.{nat_cmp}
 use Rattle.std.specs.Option.{option_map}
 use Rattle.std.specs.Prelude.{IfSome, Option, Some, None, Ok, Err, unwrap_or}
+use Rattle.wef_base.specs.Names.{subscription_name}
 use Rattle.wef_base.specs.declared.moments.TheConstants.{LAST_MOMENT}
 use Rattle.wef_batch.specs.WellFormed.{is_in, is_well_formed}
 use Rattle.wef_batch.specs.declared.items.Batch.{Batch}
@@ -41,7 +43,7 @@ use Rattle.wef_collector_rows.specs.declared.faults.CollectorFault.TheVariants a
 use Rattle.wef_collector_rows.specs.declared.standings.Standing.{Standing}
 use Rattle.wef_collector_rows.specs.declared.standings.Standing.TheVariants as stands
 use Rattle.wef_collector_serving.specs.ByRows.{Goes}
-use Rattle.wef_commands.specs.Laws.{StartsAtMost, can_start, started}
+use Rattle.wef_commands.specs.Laws.{StartsAtMost, started}
 use Rattle.wef_documents.specs.Written.{document_text}
 use Rattle.wef_eventing.proofs.AddressesBack.{addresses_read_back}
 use Rattle.wef_eventing.specs.Addresses.{IsHost, subscription_in}
@@ -73,6 +75,7 @@ use Rattle.wef_machine.specs.States.{Slot, Slots, State, slot_of, with_foreign}
 use Rattle.wef_machine.specs.declared.messages.Message.{Message}
 use Rattle.wef_machine.specs.declared.messages.Message.TheVariants.{Ack, Beat, Events, Offers, Request}
 use Rattle.wef_pairs.specs.Pairs.{about_of, subscription_at}
+use Rattle.wef_replay.proofs.GoodNames.{kept_is_one}
 use Rattle.wef_replay.specs.Good.{is_source, is_subscription}
 use Rattle.wef_safety.proofs.Aside.{IsAsideKept, KeptWith, booted_aside, changes_kept, kept_aside, kept_by_booting}
 use Rattle.wef_safety.proofs.CollectorSteps.{batch_keeps, end_keeps, events_keep, foreign_kept, is_foreign, subscribe_keeps}
@@ -84,13 +87,13 @@ use Rattle.wef_safety.proofs.Moves.{declared_at, kept_reply}
 use Rattle.wef_safety.proofs.Offering.{all_offers, reads_source, reads_subscription}
 use Rattle.wef_safety.proofs.RowMoves.{AreRowsKept, IsChangeKept, known_name, subscription_by_taking, taking_covers, taking_reaches}
 use Rattle.wef_safety.proofs.Sent.{sent_before}
-use Rattle.wef_safety.specs.Kept.{IsAckKept, IsAsked, IsAskedFor, IsBehind, IsDelivery, IsKept, IsMessageKept, IsOffered, IsOnPath, IsSaid, IsWorldKept, request_id}
+use Rattle.wef_safety.specs.Kept.{AreAddressed, IsAckKept, IsAsked, IsAskedFor, IsBehind, IsDelivery, IsKept, IsMessageKept, IsOffered, IsOnPath, IsSaid, IsWorldKept, request_id}
 use Rattle.wef_safety.specs.Safe.{WasSent}
 use Rattle.wef_source.specs.declared.messages.Delivery.{Delivery}
 use Rattle.wef_runs.proofs.Taken.{cut_stays, done_as_cut}
-use Rattle.wef_runs.specs.Deeds.{Deed, Does, IsCut, IsDue, Stay}
+use Rattle.wef_runs.specs.Deeds.{Deed, Does, IsCut, IsDue, IsRead, Stay}
 use Rattle.wef_runs.specs.Deeds.{Starts, Adds, Ends, Answers, Leaves, Requests, Takes}
-use Rattle.wef_deployments.specs.Hearing.{DeedsKeep, HearsAsked, HearsBatch, HearsBeat, Hears, IsAddable, IsToAsked, NamesHost, WasBeaten, WasDelivered, after_cut, after_deed, messages_said, named_by, to_declared, with_rows, with_stranger}
+use Rattle.wef_deployments.specs.Hearing.{DeedsKeep, HearsAsked, HearsBatch, HearsBeat, Hears, IsToAsked, WasBeaten, WasDelivered, after_cut, after_deed, messages_said, named_by, to_declared, with_rows, with_stranger}
 
 -- ---- worlds at a moment, and lines whose commit is kept but stops the collector
 
@@ -211,15 +214,18 @@ module _ (state : State) (kept : IsKept state) (last : Rows) where
 
   -- ---- subscriptions, and a start
 
-  start_keeps : can_start rows ≡ true → StartsAtMost rows last → KeptWith state last
-  start_keeps room (inl same) = same_kept same
-  start_keeps room (inr (starts, is)) =
+  start_keeps : StartsAtMost rows last → KeptWith state last
+  start_keeps (inl same) = same_kept same
+  start_keeps (inr (room, is)) =
       as_made state (started rows) last is
       (kept_aside state (started rows) kept (booted_aside rows (boot_of rows + 1)) (kept_by_booting rows (boot_of rows + 1) kept.keys) (lower.formed_booted rows room kept.formed))
 
-  add_keeps : (s : Subscription) → IsAddable s → KeepsBy state last (add_effect rows s)
-  add_keeps s can = by (is_there rows s.name) (is_full rows) (subscribe_keeps lower (stopping state state.moment) s kept can.name can.back can.addressed)
+  add_keeps : (s : Subscription) → IsRead (Adds s) → AreAddressed s → KeepsBy state last (add_effect rows s)
+  add_keeps s (names, back) addressed = by (is_there rows s.name) (is_full rows) (subscribe_keeps lower (stopping state state.moment) s kept good back addressed)
     where
+      good : is_subscription s.name ≡ true
+      good = kept_is_one s.name (subscription_name s.name) (is_utf8-from_IsUtf8 s.name names.utf8) names.name
+
       changes : List Change
       changes = put (subscription_key s.name) 0 (document_text s) ∷ []
 
@@ -426,17 +432,17 @@ module _ (state : State) (kept : IsKept state) (last : Rows) where
   asked_left asked n relates soon hears (inl same) = subst (KeptWith (named_by asked state)) (named_rows asked ∙ sym same) (named_kept asked)
   asked_left asked n relates soon hears (inr made) = asked_made asked n relates soon hears made
 
-  pub cut_keeps : (deed : Deed) → IsToAsked deed → Hears state deed → IsCut deed rows last → IsKept (after_cut state deed last)
-  cut_keeps Starts to room left = start_keeps room left
-  cut_keeps (Adds s) to can (inl same) = same_kept same
-  cut_keeps (Adds s) to can (inr made) = add_keeps s can made
-  cut_keeps (Ends u) to hears (inl same) = same_kept same
-  cut_keeps (Ends u) to hears (inr made) = end_keeps_so u made
-  cut_keeps (Answers host heard moment id said) to hears left = asked_left heard.asked moment heard.relates hears.0 hears.1 left
-  cut_keeps (Leaves heard moment) to hears left = asked_left heard.asked moment heard.relates hears.0 hears.1 left
-  cut_keeps (Requests host r moment) to hears left = same_kept left.0
-  cut_keeps (Takes waits answer moment) to hears (inl same) = same_kept same
-  cut_keeps (Takes waits answer moment) to hears (inr made) = answer_keeps waits answer moment hears.0 hears.1 to made
+  pub cut_keeps : (deed : Deed) → IsRead deed → IsToAsked deed → Hears state deed → IsCut deed rows last → IsKept (after_cut state deed last)
+  cut_keeps Starts read to hears left = start_keeps left
+  cut_keeps (Adds s) read to hears (inl same) = same_kept same
+  cut_keeps (Adds s) read to hears (inr made) = add_keeps s read hears made
+  cut_keeps (Ends u) read to hears (inl same) = same_kept same
+  cut_keeps (Ends u) read to hears (inr made) = end_keeps_so u made
+  cut_keeps (Answers host heard moment id said) read to hears left = asked_left heard.asked moment heard.relates read.0 hears left
+  cut_keeps (Leaves heard moment) read to hears left = asked_left heard.asked moment heard.relates read hears left
+  cut_keeps (Requests host r moment) read to hears left = same_kept left.0
+  cut_keeps (Takes waits answer moment) read to hears (inl same) = same_kept same
+  cut_keeps (Takes waits answer moment) read to hears (inr made) = answer_keeps waits answer moment read.0 read.1 to made
 
   -- ---- what is said
 
@@ -595,7 +601,7 @@ module _ (state : State) (kept : IsKept state) (last : Rows) where
   Answered host asked relates n id said =
       said ≡ said_by host asked rows (effect_in asked n rows) → last ≡ rows_by (effect_in asked n rows) rows → KeptWith (named_by asked state) last → Says asked (messages_said state asked relates id said)
 
-  goes_keeps : (host : List ℕ) (asked : Asked) (relates : Option MessageId) (n : ℕ) (id : MessageId) (says : Said) → HearsAsked state asked relates → NamesHost host asked → Stay rows last → Answered host asked relates n id says
+  goes_keeps : (host : List ℕ) (asked : Asked) (relates : Option MessageId) (n : ℕ) (id : MessageId) (says : Said) → HearsAsked state asked relates → IsHost host → Stay rows last → Answered host asked relates n id says
   goes_keeps host (Refused name) relates n id says hears names stay is same so = silent (Refused name) _ refl so
   goes_keeps host (Unread u) relates n id says hears names stay is same so = silent (Unread u) _ refl so
   goes_keeps host (UnreadEnd u) relates n id says hears names stay is same so = silent (UnreadEnd u) _ refl so
@@ -620,32 +626,32 @@ module _ (state : State) (kept : IsKept state) (last : Rows) where
       by None there hears = says_to None (Ack s id relates) refl so (λ slot e. absurd (none-some slot e))
       by (Some slot) there was = kept_reply (with_rows state last) (Ack s id relates) so refl (beat_acked s slot id relates was there stay)
 
-  pub done_keeps : (deed : Deed) → IsToAsked deed → Hears state deed → Does deed rows last → IsKept (after_deed state deed last)
-  done_keeps Starts to hears does = silent_so (cut_keeps Starts tt hears does)
+  pub done_keeps : (deed : Deed) → IsRead deed → IsToAsked deed → Hears state deed → Does deed rows last → IsKept (after_deed state deed last)
+  done_keeps Starts read to hears does = silent_so (cut_keeps Starts read to hears does)
     where
       silent_so : KeptWith state last → IsWorldKept last state.foreign state.sources (state.messages ++ []) state.moment
       silent_so so = subst (λ (messages : List Message). IsWorldKept last state.foreign state.sources messages state.moment) (sym (append-nil state.messages)) so
-  done_keeps (Adds s) to hears does = subst (λ (messages : List Message). IsWorldKept last state.foreign state.sources messages state.moment) (sym (append-nil state.messages)) (cut_keeps (Adds s) tt hears does)
-  done_keeps (Ends u) to hears does = subst (λ (messages : List Message). IsWorldKept last state.foreign state.sources messages state.moment) (sym (append-nil state.messages)) (cut_keeps (Ends u) tt hears does)
-  done_keeps (Takes waits answer moment) to hears does =
-      subst (λ (messages : List Message). IsWorldKept last state.foreign state.sources messages state.moment) (sym (append-nil state.messages)) (cut_keeps (Takes waits answer moment) to hears does)
-  done_keeps (Requests host r moment) to is_host does =
+  done_keeps (Adds s) read to hears does = subst (λ (messages : List Message). IsWorldKept last state.foreign state.sources messages state.moment) (sym (append-nil state.messages)) (cut_keeps (Adds s) read to hears does)
+  done_keeps (Ends u) read to hears does = subst (λ (messages : List Message). IsWorldKept last state.foreign state.sources messages state.moment) (sym (append-nil state.messages)) (cut_keeps (Ends u) read to hears does)
+  done_keeps (Takes waits answer moment) read to hears does =
+      subst (λ (messages : List Message). IsWorldKept last state.foreign state.sources messages state.moment) (sym (append-nil state.messages)) (cut_keeps (Takes waits answer moment) read to hears does)
+  done_keeps (Requests host r moment) read to is_host does =
       let well = due_well state.collector.rows kept.keys host r moment does.1 in
       says_to (slot_of state r.source.name) (Request r.source.name r.id r.identifier r.body) refl (same_kept does.0) (λ slot there.
       subst (λ (found : Rows). IsAskedFor found r.source.name r.body) (sym does.0) (well.may is_host (kept.sources r.source.name slot there).name))
-  done_keeps (Leaves heard moment) to hears does = silent heard.asked [] refl (asked_left heard.asked moment heard.relates hears.0 hears.1 does)
-  done_keeps (Answers host heard moment id said) to hears does = by does
+  done_keeps (Leaves heard moment) read to hears does = silent heard.asked [] refl (asked_left heard.asked moment heard.relates read hears does)
+  done_keeps (Answers host heard moment id said) read to hears does = by does
     where
       so : KeptWith (named_by heard.asked state) last
-      so = asked_left heard.asked moment heard.relates hears.0 hears.1 (done_as_cut (Answers host heard moment id said) rows last does)
+      so = asked_left heard.asked moment heard.relates read.0 hears (done_as_cut (Answers host heard moment id said) rows last does)
 
       by : Goes host heard.asked moment said state.collector.rows last → Says heard.asked (messages_said state heard.asked heard.relates id said)
-      by (inl (is, same)) = goes_keeps host heard.asked heard.relates moment id said hears.1 hears.2 (cut_stays rows last (Answers host heard moment id said) (done_as_cut (Answers host heard moment id said) rows last does)) is same so
+      by (inl (is, same)) = goes_keeps host heard.asked heard.relates moment id said hears read.1 (cut_stays rows last (Answers host heard moment id said) (done_as_cut (Answers host heard moment id said) rows last does)) is same so
       by (inr (is, may)) = silent heard.asked (messages_said state heard.asked heard.relates id said) (ap (messages_said state heard.asked heard.relates id) is ∙ faults_silent heard.asked heard.relates id _) so
 
 pub deeds_keep : DeedsKeep
 deeds_keep = record {
-  done = λ state deed last kept to hears does. done_keeps state kept last deed to hears does;
-  cut = λ state deed last kept to hears left. cut_keeps state kept last deed to hears left;
+  done = λ state deed last kept read to hears does. done_keeps state kept last deed read to hears does;
+  cut = λ state deed last kept read to hears left. cut_keeps state kept last deed read to hears left;
   asked = λ state host r moment kept due. (due_well state.collector.rows kept.keys host r moment due).waits;
 }

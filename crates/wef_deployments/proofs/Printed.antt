@@ -53,7 +53,7 @@ module _ (state : State) (kept : IsKept state) (room : can_start state.collector
   pair_safe : subscription_at state.collector.rows u ≡ Some about → slot_of state s ≡ Some slot → is_in (channels_read about) c ≡ true
       → IsPairSafe (started state.collector.rows) u s c 0 (settings_of about) (history slot.histories c) slot.capacity
   pair_safe known there listed =
-      let then_kept = deeds_keep.cut state Starts (started state.collector.rows) kept tt room (inr (room, refl)) in
+      let then_kept = deeds_keep.cut state Starts (started state.collector.rows) kept tt tt tt (inr (room, refl)) in
       let stays = cut_stays state.collector.rows (started state.collector.rows) Starts (inr (room, refl)) in
       (kept_is_safe (after_cut state Starts (started state.collector.rows)) then_kept).pairs u s c about (written_by slot) (stays.known u about known) (ap (option_map written_by) there) listed
 
@@ -84,7 +84,7 @@ acting_capacity (Some end) act slot next (then_on, acted, is) = ap (λ (x : Slot
 
 turn_capacity : (deed : SourceDeed) (slot next : Slot) → Turns deed slot next → next.capacity ≡ slot.capacity
 turn_capacity StartsLog slot next (closed, (last, starts, is)) = ap (λ (x : Slot). x.capacity) is
-turn_capacity StartsSource slot next (closed, is) = ap (λ (x : Slot). x.capacity) is
+turn_capacity StartsSource slot next (closed, room, is) = ap (λ (x : Slot). x.capacity) is
 turn_capacity (Writes event) slot next (closed, some, (last, made, is)) = ap (λ (x : Slot). x.capacity) is
 turn_capacity (Acts act) slot next acting = acting_capacity slot.place.memory act slot next acting
 

@@ -59,7 +59,7 @@ use Rattle.wef_source_log.specs.declared.faults.LogFault.{LogFault}
 use Rattle.wef_source_log.specs.declared.faults.LogFault.TheVariants as faults
 use Rattle.wef_runs.specs.Acts as acts
 use Rattle.wef_runs.specs.Acts.{Act, IsActed}
-use Rattle.wef_deployments.specs.Sources.{HearsAct, HearsAs, HearsWish, IsActing, IsBroken, SourceDeed, SourceDeedsKeep, StartsAtMost, Turns, says_acting, says_as, says_of_session, says_running, slot_left, slot_recorded}
+use Rattle.wef_deployments.specs.Sources.{HearsAct, HearsAs, HearsWish, IsActing, IsBroken, IsReadAs, SourceDeed, SourceDeedsKeep, StartsAtMost, Turns, says_acting, says_as, says_of_session, says_running, slot_left, slot_recorded}
 use Rattle.wef_deployments.specs.Sources.{StartsLog, StartsSource, Writes, Acts}
 
 -- ---- slots
@@ -135,9 +135,9 @@ module _ (state : State) (kept : IsKept state) (s : List ℕ) (slot : Slot) (the
         lower.log_boot_is last slot.histories slot.capacity (boot_of slot.place.rows + 1)
         (subst (λ (rows : Rows). IsWindow rows slot.histories slot.capacity (boot_of slot.place.rows + 1)) (sym is) (lower.log_starts slot.place.rows slot.histories slot.capacity (boot_of slot.place.rows) source.window))
 
-    log_started : (last : Rows) → is_boot_full slot.place.rows ≡ false → StartsAtMost slot last → IsKept (with_slot state s (slot_left slot last None))
-    log_started last room (inl same) = subst (λ (rows : Rows). IsKept (with_slot state s (slot_left slot rows None))) (sym same) closed_kept
-    log_started last room (inr is) =
+    log_started : (last : Rows) → StartsAtMost slot last → IsKept (with_slot state s (slot_left slot last None))
+    log_started last (inl same) = subst (λ (rows : Rows). IsKept (with_slot state s (slot_left slot rows None))) (sym same) closed_kept
+    log_started last (inr (room, is)) =
         let boot = start_boot last is in
         kept_slot state s slot (slot_left slot last None) kept there (start_grows last None (omega (arith, boot))) (started_source last None is room (λ _. tt))
 
@@ -471,22 +471,22 @@ module _ (state : State) (kept : IsKept state) (s : List ℕ) (slot : Slot) (the
   as_left : (next made : Slot) → next ≡ made → IsKept (with_slot state s made) → IsKept (with_slot state s next)
   as_left next made is so = subst (λ (x : Slot). IsKept (with_slot state s x)) (sym is) so
 
-  pub done_kept : (deed : SourceDeed) (next : Slot) → HearsAs state s slot deed → Turns deed slot next → IsKept (with_messages (with_slot state s next) (says_as s slot deed))
-  done_kept StartsLog next hears (closed, (last, left, is)) = quiet state s next (as_left next (slot_left slot last None) is (log_started closed last hears left))
-  done_kept StartsSource next hears (closed, is) = quiet state s next (as_left next _ is (source_started closed hears))
-  done_kept (Writes event) next hears (closed, some, (last, made, is)) = quiet state s next (as_left next (slot_recorded slot last event) is (event_written closed last event some hears made))
-  done_kept (Acts act) next hears turns = acting_kept slot.place.memory act next refl hears turns
+  pub done_kept : (deed : SourceDeed) (next : Slot) → IsReadAs deed → HearsAs state s deed → Turns deed slot next → IsKept (with_messages (with_slot state s next) (says_as s slot deed))
+  done_kept StartsLog next read hears (closed, (last, left, is)) = quiet state s next (as_left next (slot_left slot last None) is (log_started closed last left))
+  done_kept StartsSource next read hears (closed, room, is) = quiet state s next (as_left next _ is (source_started closed room))
+  done_kept (Writes event) next read hears (closed, some, (last, made, is)) = quiet state s next (as_left next (slot_recorded slot last event) is (event_written closed last event some read made))
+  done_kept (Acts act) next read hears turns = acting_kept slot.place.memory act next refl hears turns
 
-  pub cut_kept : (deed : SourceDeed) (next : Slot) → HearsAs state s slot deed → IsBroken deed slot next → IsKept (with_slot state s next)
-  cut_kept StartsLog next hears (closed, (last, left, is)) = as_left next (slot_left slot last None) is (log_started closed last hears left)
-  cut_kept StartsSource next hears (closed, (last, left, is)) = as_left next (slot_left slot last None) is (log_started closed last hears left)
-  cut_kept (Writes event) next hears (inl is) = as_left next (slot_left slot slot.place.rows None) is closed_kept
-  cut_kept (Writes event) next hears (inr (closed, some, (last, made, is))) = as_left next (slot_recorded slot last event) is (event_written closed last event some hears made)
-  cut_kept (Acts act) next hears is = as_left next (slot_left slot slot.place.rows None) is closed_kept
+  pub cut_kept : (deed : SourceDeed) (next : Slot) → IsReadAs deed → HearsAs state s deed → IsBroken deed slot next → IsKept (with_slot state s next)
+  cut_kept StartsLog next read hears (closed, (last, left, is)) = as_left next (slot_left slot last None) is (log_started closed last left)
+  cut_kept StartsSource next read hears (closed, (last, left, is)) = as_left next (slot_left slot last None) is (log_started closed last left)
+  cut_kept (Writes event) next read hears (inl is) = as_left next (slot_left slot slot.place.rows None) is closed_kept
+  cut_kept (Writes event) next read hears (inr (closed, some, (last, made, is))) = as_left next (slot_recorded slot last event) is (event_written closed last event some read made)
+  cut_kept (Acts act) next read hears is = as_left next (slot_left slot slot.place.rows None) is closed_kept
 
 pub source_deeds_keep : SourceDeedsKeep
 source_deeds_keep = record {
-  done = λ state s slot next deed kept there hears turns. done_kept state kept s slot there deed next hears turns;
-  cut = λ state s slot next deed kept there hears broken. cut_kept state kept s slot there deed next hears broken;
+  done = λ state s slot next deed kept there read hears turns. done_kept state kept s slot there deed next read hears turns;
+  cut = λ state s slot next deed kept there read hears broken. cut_kept state kept s slot there deed next read hears broken;
   ended = λ state s slot kept there. closed_kept state kept s slot there;
 }

@@ -1,5 +1,6 @@
 -- Runs of `write`, `forward` and `serve` over a source's folder, as deeds.
 use Rattle.std.proofs.Common.{inl, inr}
+use Rattle.std.specs.List.{AllByRecursion}
 use Rattle.std.specs.Prelude.{◌≡◌, ◌⊎◌, ℕ, ◌+◌, List, [], ◌∷◌, ◌++◌, length, map, None}
 use Rattle.wef_cli.specs.Runs.{Peers}
 use Rattle.wef_command_line.specs.declared.command.Command.TheVariants as the
@@ -20,7 +21,7 @@ use Rattle.wef_source_log.specs.LogWindow.{IsWindow, boot_of}
 use Rattle.wef_runs.specs.Forwarded.{acts_begun}
 use Rattle.wef_runs.specs.Runs.{Account}
 use Rattle.wef_runs.specs.Served.{acts_served_by}
-use Rattle.wef_deployments.specs.Sources.{SourceDeed, Turns}
+use Rattle.wef_deployments.specs.Sources.{IsReadAs, SourceDeed, Turns}
 use Rattle.wef_deployments.specs.Sources.{StartsLog, StartsSource, Writes, Acts}
 
 -- ---- `write`
@@ -93,9 +94,16 @@ pub record AreDeeds (deeds : List SourceDeed) (slot : Slot) (last : Rows) : Type
   pub turned : AreTurned deeds slot next
   pub rows : next.place.rows ≡ last
 
--- Each run of `write` has an account; and the runs of all three commands did their deeds, one after the other.
+-- What deeds read is so as it is of whatever is read.
+abbrev pub AreReadAs : List SourceDeed → Type 0
+AreReadAs deeds = AllByRecursion IsReadAs deeds
+
+-- Each run of `write` has an account; and the runs of all three commands did their deeds, one after the other, and what they read is so.
 pub record FolderRunsAreDeeds : Type 0 where
   pub accounts : (ending : Ending) (input out : Told) (before now : Store) → WriteEnds ending input out before now → OverLast Writing before now
   pub writes : (found last : Rows) (run : Writing found last) (slot : Slot) → IsAtRest slot found → AreDeeds (deeds_written run) slot last
   pub forwards : (address s : List ℕ) (count : ℕ) (found last : Rows) (account : Account (the.Forward address s count) found last) (slot : Slot) → IsAtRest slot found → AreDeeds (deeds_forwarded account) slot last
   pub serves : (address s : List ℕ) (count : ℕ) (found last : Rows) (account : Account (the.Serve address s count) found last) (slot : Slot) → IsAtRest slot found → AreDeeds (deeds_served account) slot last
+  pub reads_written : (found last : Rows) (run : Writing found last) → AreReadAs (deeds_written run)
+  pub reads_forwarded : (address s : List ℕ) (count : ℕ) (found last : Rows) (account : Account (the.Forward address s count) found last) → AreReadAs (deeds_forwarded account)
+  pub reads_served : (address s : List ℕ) (count : ℕ) (found last : Rows) (account : Account (the.Serve address s count) found last) → AreReadAs (deeds_served account)

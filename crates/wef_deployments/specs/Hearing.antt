@@ -1,16 +1,11 @@
 -- What a collector's deeds do to a world: what must have been said before a deed, and what it says. A world is one of the machine of
 -- schedules, of which it counts nothing what the collector remembers, or what is armed.
-use Rattle.std.specs.Prelude.{◌≡◌, ℕ, ◌≤◌, true, IfSome, List, [], ◌∷◌, ◌++◌, Option, Some, None}
-use Rattle.wef_base.specs.declared.moments.TheConstants.{LAST_MOMENT}
+use Rattle.std.specs.Prelude.{◌≡◌, ℕ, true, IfSome, List, [], ◌∷◌, ◌++◌, Option, Some, None}
 use Rattle.wef_batch.specs.declared.items.Batch.{Batch}
 use Rattle.wef_collector.specs.Asking.{waiting_of}
 use Rattle.wef_collector.specs.FormsStay.{IsSoundBatch}
 use Rattle.wef_collector.specs.declared.asking.Request as asking
-use Rattle.wef_commands.specs.Laws.{can_start}
-use Rattle.wef_documents.specs.Kept.{read_kept}
-use Rattle.wef_documents.specs.Written.{document_text}
 use Rattle.wef_eventing.specs.Addresses.{IsHost, subscription_in}
-use Rattle.wef_eventing.specs.declared.subscriptions.Subscription.{Subscription}
 use Rattle.wef_front_collector.specs.declared.hearing.Asked.{Asked}
 use Rattle.wef_front_collector.specs.declared.hearing.Asked.TheVariants.{Enumerate, Take, Heartbeat}
 use Rattle.wef_front_collector.specs.declared.saying.Said.{Said}
@@ -21,11 +16,11 @@ use Rattle.wef_keeper.specs.Rows.{Rows}
 use Rattle.wef_machine.specs.States.{Slot, State, slot_of, with_foreign}
 use Rattle.wef_machine.specs.declared.messages.Message.{Message}
 use Rattle.wef_machine.specs.declared.messages.Message.TheVariants.{Ack, Beat, Events, Offers, Request}
-use Rattle.wef_replay.specs.Good.{is_source, is_subscription}
-use Rattle.wef_safety.specs.Kept.{AreAddressed, IsAsked, IsKept, IsSaid}
+use Rattle.wef_replay.specs.Good.{is_source}
+use Rattle.wef_safety.specs.Kept.{AreAddressed, IsAsked, IsKept}
 use Rattle.wef_safety.specs.Safe.{WasSent}
 use Rattle.wef_source.specs.declared.messages.Delivery.{Delivery}
-use Rattle.wef_runs.specs.Deeds.{Deed, Does, IsCut, IsDue}
+use Rattle.wef_runs.specs.Deeds.{Deed, Does, IsCut, IsDue, IsRead}
 use Rattle.wef_runs.specs.Deeds.{Starts, Adds, Ends, Answers, Leaves, Requests, Takes}
 
 -- ---- what must have been said
@@ -60,27 +55,15 @@ HearsAsked state (Take u s batch) relates = HearsBatch (slot_of state s) state s
 HearsAsked state (Heartbeat u s ack) relates = HearsBeat (slot_of state s) state s relates
 HearsAsked state asked relates = Unit {0}
 
--- who asks for offers names a host that batches may come to
-abbrev pub NamesHost : List ℕ → Asked → Type 0
-NamesHost host (Enumerate s) = IsHost host
-NamesHost host asked = Unit {0}
-
--- A subscription has a name that reads back, and so does its document; the sources at which the collector begins it are found by
--- their names.
-pub record IsAddable (s : Subscription) : Type 0 where
-  pub name : is_subscription s.name ≡ true
-  pub back : read_kept s.name (document_text s) ≡ Some s
-  pub addressed : AreAddressed s
-
--- What is so before a deed: the boot number isn't at the greatest, subscriptions can be kept, and moments are before the year 10000.
+-- What is so before a deed. The sources at which the collector begins a subscription that is added are found by their names.
 abbrev pub Hears : State → Deed → Type 0
-Hears state Starts = can_start state.collector.rows ≡ true
-Hears state (Adds s) = IsAddable s
+Hears state Starts = Unit {0}
+Hears state (Adds s) = AreAddressed s
 Hears state (Ends u) = Unit {0}
-Hears state (Answers host heard moment id said) = (moment ≤ LAST_MOMENT) × HearsAsked state heard.asked heard.relates × NamesHost host heard.asked
-Hears state (Leaves heard moment) = (moment ≤ LAST_MOMENT) × HearsAsked state heard.asked heard.relates
+Hears state (Answers host heard moment id said) = HearsAsked state heard.asked heard.relates
+Hears state (Leaves heard moment) = HearsAsked state heard.asked heard.relates
 Hears state (Requests host r moment) = IsHost host
-Hears state (Takes waits answer moment) = (moment ≤ LAST_MOMENT) × IsSaid answer
+Hears state (Takes waits answer moment) = Unit {0}
 
 -- an answer is to a request that waits under names that read back, or to none
 abbrev pub IsToAsked : Deed → Type 0
@@ -136,7 +119,7 @@ after_cut state deed last = with_rows (named deed state) last
 
 -- What is kept of a world stays kept behind each deed of the collector, and behind one that is cut off anywhere.
 pub record DeedsKeep : Type 0 where
-  pub done : (state : State) (deed : Deed) (last : Rows) → IsKept state → IsToAsked deed → Hears state deed → Does deed state.collector.rows last → IsKept (after_deed state deed last)
-  pub cut : (state : State) (deed : Deed) (last : Rows) → IsKept state → IsToAsked deed → Hears state deed → IsCut deed state.collector.rows last → IsKept (after_cut state deed last)
+  pub done : (state : State) (deed : Deed) (last : Rows) → IsKept state → IsRead deed → IsToAsked deed → Hears state deed → Does deed state.collector.rows last → IsKept (after_deed state deed last)
+  pub cut : (state : State) (deed : Deed) (last : Rows) → IsKept state → IsRead deed → IsToAsked deed → Hears state deed → IsCut deed state.collector.rows last → IsKept (after_cut state deed last)
   -- and a request for which its rows call waits under names that read back
   pub asked : (state : State) (host : List ℕ) (r : asking.Request) (moment : ℕ) → IsKept state → IsDue state.collector.rows host r moment → IsAsked (waiting_of r)

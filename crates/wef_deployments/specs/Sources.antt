@@ -51,14 +51,15 @@ abbrev pub IsActing : Option End → Act → Slot → Slot → Type 0
 IsActing None act slot next = ⊥
 IsActing (Some end) act slot next = (then_on : End) × IsActed slot.place.rows act end then_on × (next ≡ slot_left slot slot.place.rows (Some then_on))
 
--- the rows of a log are as they were, or it was started over them
+-- the rows of a log are as they were, or it could be started, and was
 abbrev pub StartsAtMost : Slot → Rows → Type 0
-StartsAtMost slot last = (last ≡ slot.place.rows) ⊎ (last ≡ started slot.place.rows slot.capacity)
+StartsAtMost slot last = (last ≡ slot.place.rows) ⊎ ((is_boot_full slot.place.rows ≡ false) × (last ≡ started slot.place.rows slot.capacity))
 
 -- What a deed makes of a slot. Starts and writes are of a source that doesn't run, a write of a log that was started.
 abbrev pub Turns : SourceDeed → Slot → Slot → Type 0
 Turns StartsLog slot next = (slot.place.memory ≡ None) × ((last : Rows) × StartsAtMost slot last × (next ≡ slot_left slot last None))
-Turns StartsSource slot next = (slot.place.memory ≡ None) × (next ≡ slot_left slot (started slot.place.rows slot.capacity) (Some (start_of (next_boot slot.place.rows))))
+Turns StartsSource slot next =
+    (slot.place.memory ≡ None) × (is_boot_full slot.place.rows ≡ false) × (next ≡ slot_left slot (started slot.place.rows slot.capacity) (Some (start_of (next_boot slot.place.rows))))
 Turns (Writes event) slot next =
     (slot.place.memory ≡ None) × (0 < boot_of slot.place.rows) × ((last : Rows) × Makes (write_effect slot.place.rows event) slot.place.rows last × (next ≡ slot_recorded slot last event))
 Turns (Acts act) slot next = IsActing slot.place.memory act slot next
@@ -70,6 +71,11 @@ IsBroken StartsLog slot next = Turns StartsLog slot next
 IsBroken StartsSource slot next = Turns StartsLog slot next
 IsBroken (Writes event) slot next = (next ≡ slot_left slot slot.place.rows None) ⊎ Turns (Writes event) slot next
 IsBroken (Acts act) slot next = next ≡ slot_left slot slot.place.rows None
+
+-- What is so of whatever a run reads: an event that is written is the one that its text says.
+abbrev pub IsReadAs : SourceDeed → Type 0
+IsReadAs (Writes event) = may_be_written event ≡ true
+IsReadAs deed = Unit {0}
 
 -- ---- what must have been said
 
@@ -88,12 +94,9 @@ HearsAct state s (Replies heard moment) = HearsWish state s heard.asked
 HearsAct state s (Leaves heard moment) = HearsWish state s heard.asked
 HearsAct state s act = Unit {0}
 
--- An event that is written is the one that its text says, and the boot number isn't at its greatest.
-abbrev pub HearsAs : State → List ℕ → Slot → SourceDeed → Type 0
-HearsAs state s slot StartsLog = is_boot_full slot.place.rows ≡ false
-HearsAs state s slot StartsSource = is_boot_full slot.place.rows ≡ false
-HearsAs state s slot (Writes event) = may_be_written event ≡ true
-HearsAs state s slot (Acts act) = HearsAct state s act
+abbrev pub HearsAs : State → List ℕ → SourceDeed → Type 0
+HearsAs state s (Acts act) = HearsAct state s act
+HearsAs state s deed = Unit {0}
 
 -- ---- what is said
 
@@ -120,8 +123,8 @@ says_as s slot deed = []
 -- What is kept of a world stays kept behind each deed of a declared source, behind one that is cut off anywhere, and behind the end of
 -- a run.
 pub record SourceDeedsKeep : Type 0 where
-  pub done : (state : State) (s : List ℕ) (slot next : Slot) (deed : SourceDeed) → IsKept state → slot_of state s ≡ Some slot → HearsAs state s slot deed → Turns deed slot next
+  pub done : (state : State) (s : List ℕ) (slot next : Slot) (deed : SourceDeed) → IsKept state → slot_of state s ≡ Some slot → IsReadAs deed → HearsAs state s deed → Turns deed slot next
       → IsKept (with_messages (with_slot state s next) (says_as s slot deed))
-  pub cut : (state : State) (s : List ℕ) (slot next : Slot) (deed : SourceDeed) → IsKept state → slot_of state s ≡ Some slot → HearsAs state s slot deed → IsBroken deed slot next
+  pub cut : (state : State) (s : List ℕ) (slot next : Slot) (deed : SourceDeed) → IsKept state → slot_of state s ≡ Some slot → IsReadAs deed → HearsAs state s deed → IsBroken deed slot next
       → IsKept (with_slot state s next)
   pub ended : (state : State) (s : List ℕ) (slot : Slot) → IsKept state → slot_of state s ≡ Some slot → IsKept (with_slot state s (slot_left slot slot.place.rows None))

@@ -70,12 +70,12 @@ pub data Next : World → World → Type 0 where
       → Next w (with_turns w w.state s (Some (deeds_served account)))
   -- the run there does its next deed
   source_goes_on : (w : World) (s : List ℕ) (slot next : Slot) (deed : SourceDeed) (deeds : List SourceDeed) → slot_of w.state s ≡ Some slot → w.turns s ≡ Some (deed ∷ deeds)
-      → HearsAs w.state s slot deed → Turns deed slot next → Next w (with_turns w (with_messages (with_slot w.state s next) (says_as s slot deed)) s (Some deeds))
+      → HearsAs w.state s deed → Turns deed slot next → Next w (with_turns w (with_messages (with_slot w.state s next) (says_as s slot deed)) s (Some deeds))
   -- it ends, or is killed between two deeds
   source_stops : (w : World) (s : List ℕ) (slot : Slot) → slot_of w.state s ≡ Some slot → Next w (with_turns w (with_slot w.state s (slot_left slot slot.place.rows None)) s None)
   -- it is killed in a deed
   source_is_cut : (w : World) (s : List ℕ) (slot next : Slot) (deed : SourceDeed) (deeds : List SourceDeed) → slot_of w.state s ≡ Some slot → w.turns s ≡ Some (deed ∷ deeds)
-      → HearsAs w.state s slot deed → IsBroken deed slot next → Next w (with_turns w (with_slot w.state s next) s None)
+      → HearsAs w.state s deed → IsBroken deed slot next → Next w (with_turns w (with_slot w.state s next) s None)
 
 -- what may come to be of a world
 pub data Reaches (first : World) : World → Type 0 where

@@ -18,8 +18,8 @@ pub fn source_deeds_keep()
     ensures { SourceDeedsKeep }
 {}
 
-/// Each run of `write` has an account: how far it came. A run of `write` or `forward` over the folder of a
-/// source did its deeds, one after the other.
+/// Each run of `write` has an account: how far it came. A run of `write`, `forward` or `serve` over the folder
+/// of a source did its deeds, one after the other, and each event that it wrote is the one that its text says.
 pub fn folder_runs_are_deeds()
     ensures { FolderRunsAreDeeds }
 {
@@ -27,12 +27,13 @@ pub fn folder_runs_are_deeds()
 }
 
 /// Deployments are safe. Take one collector's folder, in which `add`, `remove`, `list`, `show`, `events`,
-/// `status` and `collect` are run, and any number of sources' folders, in which `write` and `forward` are,
-/// all of them new at first, with at most one run at a time over each. Whatever the order, and wherever runs
-/// are killed: what stands in the collector's store is, for each of its subscriptions and each source, up to
-/// the bookmark, exactly the matching events that this source's `write` committed, once and in order, but
-/// for marked records that were overwritten or too large; and each batch that was acknowledged to a source
-/// lies within that bookmark. What must be so of the outside stands with the deeds (`Hears`, `HearsAs`).
+/// `status`, `collect` and `request` are run, and any number of sources' folders, in which `write`, `forward`
+/// and `serve` are, all of them new at first, with at most one run at a time over each. Whatever the order,
+/// and wherever runs are killed: what stands in the collector's store is, for each of its subscriptions and
+/// each source, up to the bookmark, exactly the matching events that this source's `write` committed, once
+/// and in order, but for marked records that were overwritten or too large; and each batch that was
+/// acknowledged to a source lies within that bookmark. What must be so of the outside stands with the deeds
+/// (`Hears`, `HearsAs`).
 pub fn deployments_are_safe()
     ensures { DeploymentsAreSafe }
 {}
