@@ -91,7 +91,7 @@ use Rattle.wef_safety.specs.Kept.{AreAddressed, IsAckKept, IsAsked, IsAskedFor, 
 use Rattle.wef_safety.specs.Safe.{WasSent}
 use Rattle.wef_source.specs.declared.messages.Delivery.{Delivery}
 use Rattle.wef_runs.proofs.Taken.{cut_stays, done_as_cut}
-use Rattle.wef_runs.specs.Deeds.{Deed, Does, IsCut, IsDue, IsRead, Stay}
+use Rattle.wef_runs.specs.Deeds.{Deed, Does, IsCut, IsDue, IsRead, IsSoundAsked, Stay}
 use Rattle.wef_runs.specs.Deeds.{Starts, Adds, Ends, Answers, Leaves, Requests, Takes}
 use Rattle.wef_deployments.specs.Hearing.{DeedsKeep, HearsAsked, HearsBatch, HearsBeat, Hears, IsToAsked, WasBeaten, WasDelivered, after_cut, after_deed, messages_said, named_by, to_declared, with_rows, with_stranger}
 
@@ -372,10 +372,10 @@ module _ (state : State) (kept : IsKept state) (last : Rows) where
   abbrev KeepsNamed : Asked → calls.Effect → Type 0
   KeepsNamed asked e = Makes e rows last → KeptWith (named_by asked state) last
 
-  batch_made : (o : Option Slot) (u s : List ℕ) (batch : Batch) (n : ℕ) (relates : Option MessageId) → slot_of state s ≡ o → n ≤ LAST_MOMENT → HearsBatch o state s u batch relates
+  batch_made : (o : Option Slot) (u s : List ℕ) (batch : Batch) (n : ℕ) (relates : Option MessageId) → slot_of state s ≡ o → n ≤ LAST_MOMENT → IsSoundBatch batch → HearsBatch o state s u batch relates
       → Makes (take_effect rows u s batch n) rows last → KeptWith (with_stranger o state s) last
-  batch_made None u s batch n relates there soon hears made = stranger_batch s u n batch there soon hears.0 hears.1 made
-  batch_made (Some slot) u s batch n relates there soon was made =
+  batch_made None u s batch n relates there soon sound hears made = stranger_batch s u n batch there soon hears sound made
+  batch_made (Some slot) u s batch n relates there soon sound was made =
       subst (λ (b : Batch). Makes (take_effect rows u s b n) rows last → KeptWith state last) was.batch_is
       (declared_batch s u slot n was.delivery there soon was.was_sent (delivered s u slot batch relates there was) was.to_subscription) made
 
@@ -383,23 +383,23 @@ module _ (state : State) (kept : IsKept state) (last : Rows) where
   beat_named None s relates there hears = hears
   beat_named (Some slot) s relates there was = (kept.sources s slot there).name
 
-  asked_made : (asked : Asked) (n : ℕ) (relates : Option MessageId) → n ≤ LAST_MOMENT → HearsAsked state asked relates → KeepsNamed asked (effect_in asked n rows)
-  asked_made (Refused name) n relates soon hears = λ made. same_kept made
-  asked_made (Enumerate s) n relates soon hears = λ made. same_kept made
-  asked_made (Unread u) n relates soon hears = by (standing rows u)
+  asked_made : (asked : Asked) (n : ℕ) (relates : Option MessageId) → n ≤ LAST_MOMENT → IsSoundAsked asked → HearsAsked state asked relates → KeepsNamed asked (effect_in asked n rows)
+  asked_made (Refused name) n relates soon sound hears = λ made. same_kept made
+  asked_made (Enumerate s) n relates soon sound hears = λ made. same_kept made
+  asked_made (Unread u) n relates soon sound hears = by (standing rows u)
     where
       by : (o : Standing) → KeepsBy state last (unread_by o)
       by stands.Unknown = λ made. absurd made
       by (stands.Ended about) = λ made. absurd made
       by (stands.Live about) = λ made. absurd made
-  asked_made (Take u s batch) n relates soon hears = λ made. batch_made (slot_of state s) u s batch n relates refl soon hears made
-  asked_made (Heartbeat u s ack) n relates soon hears = hear_keeps u s n (beat_named (slot_of state s) s relates refl hears) soon
-  asked_made (UnreadEnd u) n relates soon hears = by (is_known (standing rows u))
+  asked_made (Take u s batch) n relates soon sound hears = λ made. batch_made (slot_of state s) u s batch n relates refl soon sound hears made
+  asked_made (Heartbeat u s ack) n relates soon sound hears = hear_keeps u s n (beat_named (slot_of state s) s relates refl hears) soon
+  asked_made (UnreadEnd u) n relates soon sound hears = by (is_known (standing rows u))
     where
       by : (known : Bool) → KeepsBy state last (cond known (Err faults.NotWellFormed) (Err faults.NoSubscription))
       by true = λ made. absurd made
       by false = λ made. absurd made
-  asked_made (asks.Ended u s identifier) n relates soon hears = lease_keeps u s identifier (is_known (standing rows u))
+  asked_made (asks.Ended u s identifier) n relates soon sound hears = lease_keeps u s identifier (is_known (standing rows u))
 
   -- a name more of a stranger takes nothing away
   named_kept : (asked : Asked) → IsKept (named_by asked state)
@@ -428,9 +428,9 @@ module _ (state : State) (kept : IsKept state) (last : Rows) where
   named_rows (UnreadEnd u) = refl
   named_rows (asks.Ended u s identifier) = refl
 
-  asked_left : (asked : Asked) (n : ℕ) (relates : Option MessageId) → n ≤ LAST_MOMENT → HearsAsked state asked relates → MayLeave (effect_in asked n) last rows → KeptWith (named_by asked state) last
-  asked_left asked n relates soon hears (inl same) = subst (KeptWith (named_by asked state)) (named_rows asked ∙ sym same) (named_kept asked)
-  asked_left asked n relates soon hears (inr made) = asked_made asked n relates soon hears made
+  asked_left : (asked : Asked) (n : ℕ) (relates : Option MessageId) → n ≤ LAST_MOMENT → IsSoundAsked asked → HearsAsked state asked relates → MayLeave (effect_in asked n) last rows → KeptWith (named_by asked state) last
+  asked_left asked n relates soon sound hears (inl same) = subst (KeptWith (named_by asked state)) (named_rows asked ∙ sym same) (named_kept asked)
+  asked_left asked n relates soon sound hears (inr made) = asked_made asked n relates soon sound hears made
 
   pub cut_keeps : (deed : Deed) → IsRead deed → IsToAsked deed → Hears state deed → IsCut deed rows last → IsKept (after_cut state deed last)
   cut_keeps Starts read to hears left = start_keeps left
@@ -438,8 +438,8 @@ module _ (state : State) (kept : IsKept state) (last : Rows) where
   cut_keeps (Adds s) read to hears (inr made) = add_keeps s read hears made
   cut_keeps (Ends u) read to hears (inl same) = same_kept same
   cut_keeps (Ends u) read to hears (inr made) = end_keeps_so u made
-  cut_keeps (Answers host heard moment id said) read to hears left = asked_left heard.asked moment heard.relates read.0 hears left
-  cut_keeps (Leaves heard moment) read to hears left = asked_left heard.asked moment heard.relates read hears left
+  cut_keeps (Answers host heard moment id said) read to hears left = asked_left heard.asked moment heard.relates read.0 read.2 hears left
+  cut_keeps (Leaves heard moment) read to hears left = asked_left heard.asked moment heard.relates read.0 read.1 hears left
   cut_keeps (Requests host r moment) read to hears left = same_kept left.0
   cut_keeps (Takes waits answer moment) read to hears (inl same) = same_kept same
   cut_keeps (Takes waits answer moment) read to hears (inr made) = answer_keeps waits answer moment read.0 read.1 to made
@@ -639,11 +639,11 @@ module _ (state : State) (kept : IsKept state) (last : Rows) where
       let well = due_well state.collector.rows kept.keys host r moment does.1 in
       says_to (slot_of state r.source.name) (Request r.source.name r.id r.identifier r.body) refl (same_kept does.0) (λ slot there.
       subst (λ (found : Rows). IsAskedFor found r.source.name r.body) (sym does.0) (well.may is_host (kept.sources r.source.name slot there).name))
-  done_keeps (Leaves heard moment) read to hears does = silent heard.asked [] refl (asked_left heard.asked moment heard.relates read hears does)
+  done_keeps (Leaves heard moment) read to hears does = silent heard.asked [] refl (asked_left heard.asked moment heard.relates read.0 read.1 hears does)
   done_keeps (Answers host heard moment id said) read to hears does = by does
     where
       so : KeptWith (named_by heard.asked state) last
-      so = asked_left heard.asked moment heard.relates read.0 hears (done_as_cut (Answers host heard moment id said) rows last does)
+      so = asked_left heard.asked moment heard.relates read.0 read.2 hears (done_as_cut (Answers host heard moment id said) rows last does)
 
       by : Goes host heard.asked moment said state.collector.rows last → Says heard.asked (messages_said state heard.asked heard.relates id said)
       by (inl (is, same)) = goes_keeps host heard.asked heard.relates moment id said hears read.1 (cut_stays rows last (Answers host heard moment id said) (done_as_cut (Answers host heard moment id said) rows last does)) is same so

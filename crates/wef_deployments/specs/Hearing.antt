@@ -3,7 +3,6 @@
 use Rattle.std.specs.Prelude.{◌≡◌, ℕ, true, IfSome, List, [], ◌∷◌, ◌++◌, Option, Some, None}
 use Rattle.wef_batch.specs.declared.items.Batch.{Batch}
 use Rattle.wef_collector.specs.Asking.{waiting_of}
-use Rattle.wef_collector.specs.FormsStay.{IsSoundBatch}
 use Rattle.wef_collector.specs.declared.asking.Request as asking
 use Rattle.wef_eventing.specs.Addresses.{IsHost, subscription_in}
 use Rattle.wef_front_collector.specs.declared.hearing.Asked.{Asked}
@@ -39,10 +38,10 @@ pub record WasBeaten (state : State) (s : List ℕ) (relates : Option MessageId)
   pub was_sent : WasSent state.messages (Beat s beat)
   pub relates_is : relates ≡ Some beat.id
 
--- A stranger may send any batch that can be read at all.
+-- A stranger may send any batch, under a name that reads back.
 abbrev pub HearsBatch : Option Slot → State → List ℕ → List ℕ → Batch → Option MessageId → Type 0
 HearsBatch (Some slot) state s u batch relates = WasDelivered state s u batch relates
-HearsBatch None state s u batch relates = (is_source s ≡ true) × IsSoundBatch batch
+HearsBatch None state s u batch relates = is_source s ≡ true
 
 -- and a heartbeat
 abbrev pub HearsBeat : Option Slot → State → List ℕ → Option MessageId → Type 0

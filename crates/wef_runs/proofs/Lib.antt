@@ -1,6 +1,8 @@
 pub mod Accounts
 pub mod Acted
+pub mod AskedSound
 pub mod Awaited
+pub mod BatchesSound
 pub mod Done
 pub mod Fitting
 pub mod Forwarded

@@ -37,6 +37,7 @@ use Rattle.wef_serving.specs.Serving.{to_none, to_one_more}
 use Rattle.wef_serving.specs.declared.ends.ConnectionEnd.{ConnectionEnd}
 use Rattle.wef_subscribing.specs.ByRows.{IsRequestedOver, RequestSays}
 use Rattle.wef_subscribing.specs.Requesting.{AreRequestedBy, EndsAtBy, StopsBy}
+use Rattle.wef_runs.proofs.AskedSound.{heard_sound}
 use Rattle.wef_runs.proofs.ResponsesSaid.{TellsSaid, responses_said}
 use Rattle.wef_runs.specs.Deeds.{Deed, IsRead}
 use Rattle.wef_runs.specs.Deeds.{Adds}
@@ -56,8 +57,8 @@ both_read (deed ∷ first) next are more = (are.0, both_read first next are.1 mo
 module _ (final : Rows) (clock : Option ℕ) where
   request_read : (k l : Kept) (responds : Responds (AnswersAt clock (AnswersBy final)) (LeavesAt clock LeavesBy) k l) → AreRead (deeds_of_request final clock responds)
   request_read k l (request, inl (moment, is, inl same)) = tt
-  request_read k l (request, inl (moment, is, inr (heard, hears, left))) = (is.0, tt)
-  request_read k l (request, inr (answer, (moment, is, (heard, hears, answered)))) = ((is.0, hears.1), tt)
+  request_read k l (request, inl (moment, is, inr (heard, hears, left))) = ((is.0, heard_sound request.target request.charset request.body heard hears.0), tt)
+  request_read k l (request, inr (answer, (moment, is, (heard, hears, answered)))) = ((is.0, hears.1, heard_sound request.target request.charset request.body heard hears.0), tt)
 
   turns_read : {k l : Kept} (turns : RespondsInTurn (AnswersAt clock (AnswersBy final)) (LeavesAt clock LeavesBy) k l) → AreRead (deeds_in_turn final clock turns)
   turns_read (to_none k) = tt

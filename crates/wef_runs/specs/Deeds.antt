@@ -5,6 +5,7 @@ use Rattle.wef_base.specs.declared.moments.TheConstants.{LAST_MOMENT}
 use Rattle.wef_batch.specs.declared.items.Batch.{Batch}
 use Rattle.wef_collector.specs.Asking.{next_request}
 use Rattle.wef_collector.specs.Calls.{add_effect, end_effect}
+use Rattle.wef_collector.specs.FormsStay.{IsSoundBatch}
 use Rattle.wef_collector.specs.Laws.{BookmarksRise, IsReached}
 use Rattle.wef_collector.specs.Responses.{waiting_effect}
 use Rattle.wef_collector.specs.declared.asking.Request.{Request}
@@ -66,13 +67,18 @@ abbrev pub Does : Deed → Rows → Rows → Type 0
 Does (Answers host heard moment id said) found last = Goes host heard.asked moment said found last
 Does deed found last = IsCut deed found last
 
+-- a batch's events are those that their texts say, and its numbers are such as records have
+abbrev pub IsSoundAsked : Asked → Type 0
+IsSoundAsked (Take u s batch) = IsSoundBatch batch
+IsSoundAsked asked = Unit {0}
+
 -- What is so of whatever a run reads: a document has names that read back, and reads back itself; a request came to a host that an
--- address may name; an answer names a session by a text without spaces at its ends, for no longer than a duration may be; and clocks are
--- before the year 10000.
+-- address may name; a batch is sound; an answer names a session by a text without spaces at its ends, for no longer than a duration may
+-- be; and clocks are before the year 10000.
 abbrev pub IsRead : Deed → Type 0
 IsRead (Adds s) = HasKeptNames s × IsReadAgain s
-IsRead (Answers host heard moment id said) = (moment ≤ LAST_MOMENT) × IsHost host
-IsRead (Leaves heard moment) = moment ≤ LAST_MOMENT
+IsRead (Answers host heard moment id said) = (moment ≤ LAST_MOMENT) × IsHost host × IsSoundAsked heard.asked
+IsRead (Leaves heard moment) = (moment ≤ LAST_MOMENT) × IsSoundAsked heard.asked
 IsRead (Takes waits answer moment) = (moment ≤ LAST_MOMENT) × IsSaid answer
 IsRead deed = Unit {0}
 

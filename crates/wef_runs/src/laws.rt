@@ -16,10 +16,10 @@ pub fn runs_are_accounted()
 
 /// What a collector took is kept. A run of one of its commands is a chain of deeds, each of which commits
 /// once at most (`deeds`). A document that it read has names that read back, and reads back itself, requests
-/// came to hosts that addresses may name, and its moments are before the year 10000 (`read`). Behind it no
-/// subscription is forgotten and no bookmark is lower, and each batch that it took, acknowledged or not, lies
-/// within the bookmark of its source (`run`). So it is behind any runs, ended or killed anywhere (`runs`).
-/// Nothing is asked of whoever sends.
+/// came to hosts that addresses may name, batches are sound, answers to requests can be kept, and moments are
+/// before the year 10000 (`read`). Behind it no subscription is forgotten and no bookmark is lower, and each
+/// batch that it took, acknowledged or not, lies within the bookmark of its source (`run`). So it is behind any
+/// runs, ended or killed anywhere (`runs`). Nothing is asked of whoever sends.
 pub fn what_was_taken_is_kept()
     ensures deeds { CollectorRunsAreDeeds }
     ensures read { RunsReadSo }
